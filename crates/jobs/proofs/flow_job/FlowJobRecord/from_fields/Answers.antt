@@ -1,0 +1,8 @@
+use native.Mathlib.Omega.{arith}
+use Rattle.jobs.proofs.Fields.{three-and-zero}
+use Rattle.jobs.proofs.flow_job.FlowJobRecord.from_fields.Needs as need
+
+pub returns : need.returns
+returns c =
+    let l = c .in-Continue-check-fields .ensures tt in
+    (l, three-and-zero (c .args .fields .now) (c .told-fields) (l 3 (omega arith) .high))

@@ -1,0 +1,9 @@
+use mathlib.Core.Path.{_≡_}
+use mathlib.Core.List.{map}
+use lib.ListN.{take}
+use Rattle.std.specs.Of.Vec.{vec-items}
+use Rattle.jobs.specs.Bytes.{fields-of}
+use Rattle.jobs.proofs.joblist.file.read_jobs.Given as given
+
+abbrev pub Inv-loop-index : given.InvT-loop-index
+Inv-loop-index g l = map (g .J·Job .row) (vec-items (l .jobs)) ≡ map fields-of (take (l .index) (l .records))

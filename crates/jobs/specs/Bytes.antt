@@ -1,0 +1,28 @@
+-- Records as bytes: four numbers of four bytes, the low byte first.
+use Prim.Native.Nat.{ℕ, _+_, _*_, _/_, _%_, _<_}
+use mathlib.Core.Path.{_≡_}
+use mathlib.Core.List.{List, [], _∷_, _++_, map}
+use lib.ListN.{length, getD}
+use Rattle.std.specs.Vectors.{chunked}
+use Rattle.std.specs.shelf.Lists.{joined}
+
+-- The number that four bytes hold, and the four bytes of a number.
+abbrev pub number : List ℕ → ℕ
+number w = getD w 0 0 + getD w 1 0 * 256 + getD w 2 0 * 65536 + getD w 3 0 * 16777216
+
+abbrev pub word : ℕ → List ℕ
+word n = (n % 256) ∷ (n / 256 % 256) ∷ (n / 65536 % 256) ∷ (n / 16777216 % 256) ∷ []
+
+-- The four fields of a record, and the record of four fields.
+abbrev pub fields-of : List ℕ → List ℕ
+fields-of r = map number (chunked 4 4 r)
+
+abbrev pub record-of : List ℕ → List ℕ
+record-of fs = joined word fs
+
+-- A file is its records one after the other: the rows of a file are the fields of its records.
+abbrev pub rows-of : List ℕ → List (List ℕ)
+rows-of b = map fields-of (chunked 16 (length b / 16) b)
+
+abbrev pub file-of : List (List ℕ) → List ℕ
+file-of rows = joined record-of rows

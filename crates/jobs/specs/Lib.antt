@@ -1,0 +1,4 @@
+pub mod Fields
+pub mod Bytes
+pub mod Lists
+pub mod Files

@@ -1,0 +1,36 @@
+-- What the calls of a list of jobs answer and leave.
+-- A kind of jobs has the limits `spans` of its four fields, and `row` gives the four fields of a job.
+use Prim.Native.Nat.{ℕ, _+_, _-_, _≤_, _<_}
+use mathlib.Core.Path.{_≡_}
+use mathlib.Core.List.{List, [], _∷_, _++_, map}
+use mathlib.Core.Logic.{_⊎_}
+use lib.ListN.{length, getD}
+use Rattle.std.specs.declared.option.Option.{Option}
+use Rattle.std.specs.declared.option.Option.the-variants.{Some, None}
+use Rattle.std.specs.declared.result.Result.{Result}
+use Rattle.std.specs.declared.result.Result.the-variants.{Ok, Err}
+use Rattle.model.specs.declared.refusal.Refusal.{Refusal}
+use Rattle.model.specs.Returned.{Returns, returned}
+use Rattle.jobs.specs.declared.field.Span.{Span}
+use Rattle.jobs.specs.Fields.{Lawful, Fault}
+
+-- The most jobs that a list holds.
+abbrev pub most-jobs : ℕ
+most-jobs = 128
+
+-- What stands at a place from 1; none where there is no such place.
+abbrev pub At-place : {X : Type 0} → List X → ℕ → Option X → Type 0
+At-place xs place (Some x) = (1 ≤ place) × (place ≤ length xs) × (x ≡ getD xs (place - 1) x)
+At-place xs place None = (place ≡ 0) ⊎ (length xs < place)
+
+-- Why a job is not added to n jobs: with 2 where the list is full, else for the fault of its fields under the number that it would get.
+-- Only want of memory keeps a lawful job out of a list with room.
+pub data Not-added (spans : List Span) (n : ℕ) (fs : List ℕ) (e : Refusal) : Type 0 where
+  full : n ≡ most-jobs → Returns e 2 [] → Not-added spans n fs e
+  faulty : n < most-jobs → Fault spans (n + 1) fs e → Not-added spans n fs e
+  no-memory : n < most-jobs → Lawful spans fs → returned e ≡ None → Not-added spans n fs e
+
+-- The job with these fields is added at the end of the list, or the list stays as it was.
+abbrev pub Added : {J : Type 0} → List Span → (J → List ℕ) → List J → List J → List ℕ → Result (Unit {0}) Refusal → Type 0
+Added spans row js js′ fs (Ok u) = (length js < most-jobs) × Lawful spans fs × (map row js′ ≡ map row js ++ fs ∷ [])
+Added spans row js js′ fs (Err e) = (js′ ≡ js) × Not-added spans (length js) fs e
