@@ -2,3 +2,4 @@ pub mod Fields
 pub mod Bytes
 pub mod Lists
 pub mod Files
+pub mod Kinds

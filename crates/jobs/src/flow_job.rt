@@ -1,6 +1,7 @@
 // A job of the flow shop.
 ghost use Prim.Native.Nat.{_≤_};
 ghost use mathlib.Core.List.{[], _∷_};
+ghost use Rattle.jobs.specs.Kinds.{flow-spans};
 use crate::field::Span;
 use crate::field::check_fields;
 use crate::job::Job;
@@ -38,7 +39,7 @@ const SPANS: [Span; 4] = [
 ];
 
 pub impl Job for FlowJob as FlowJobRecord {
-    ghost spans = { record { least = 1; most = 1000000 } ∷ record { least = 1; most = 1000000 } ∷ record { least = 1; most = 1000000 } ∷ record { least = 0; most = 0 } ∷ [] };
+    ghost spans = { flow-spans };
 
     ghost row = { λ j. j .first ∷ j .second ∷ j .third ∷ 0 ∷ [] };
 

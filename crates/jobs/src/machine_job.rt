@@ -1,6 +1,7 @@
 // A job of one machine.
 ghost use Prim.Native.Nat.{_≤_};
 ghost use mathlib.Core.List.{[], _∷_};
+ghost use Rattle.jobs.specs.Kinds.{machine-spans};
 use crate::field::Span;
 use crate::field::check_fields;
 use crate::job::Job;
@@ -36,7 +37,7 @@ const SPANS: [Span; 4] = [
 ];
 
 pub impl Job for MachineJob as MachineJobRecord {
-    ghost spans = { record { least = 0; most = 1000000 } ∷ record { least = 1; most = 1000000 } ∷ record { least = 0; most = 1000000 } ∷ record { least = 0; most = 0 } ∷ [] };
+    ghost spans = { machine-spans };
 
     ghost row = { λ j. j .head ∷ j .work ∷ j .tail ∷ 0 ∷ [] };
 

@@ -31,6 +31,13 @@ impl<J: Job> JobList<J> {
         self.jobs.len()
     }
 
+    /// The jobs in order of their numbers.
+    pub fn as_slice(&self) -> &[J]
+        ensures { λ r. ⌜ now r ≡ vec-items (now (self .entry) .jobs) ⌝ }
+    {
+        self.jobs.as_slice()
+    }
+
     /// Adds the job of a record's four fields at the end.
     pub fn add(&mut self, fields: &[u32; 4]) -> Result<(), Refusal>
         ensures { λ r. ⌜ Added spans row (vec-items (now (self .entry) .jobs)) (vec-items (now (self .exit) .jobs)) (now (fields .entry)) r ⌝ }
