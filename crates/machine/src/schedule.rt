@@ -75,11 +75,11 @@ impl Schedule {
         self.worth
     }
 
-    /// How many slots there are.
-    pub fn count(&self) -> usize
-        ensures { λ r. ⌜ r ≡ length (vec-items (now (self .entry) .slots)) ⌝ }
+    /// The slots in the order of work.
+    pub fn slots(&self) -> &[Slot]
+        ensures { λ r. ⌜ now r ≡ vec-items (now (self .entry) .slots) ⌝ }
     {
-        self.slots.len()
+        self.slots.as_slice()
     }
 
     /// The slot at a place from 1; none where there is no such place.

@@ -7,11 +7,13 @@ use mathlib.Core.List.{List, [], _∷_, _++_}
 use native.Mathlib.Omega.{arith}
 use lib.Dec.{eqb}
 use lib.ListN.{length, getD, take, drop}
+use Rattle.std.specs.Iters.{counting}
 use Rattle.std.specs.Orderings.{Decides, When}
 use Rattle.std.specs.Places.{Some-of}
-use Rattle.std.specs.shelf.Lists.{All, Every}
+use Rattle.std.specs.shelf.Lists.{All}
 use Rattle.std.proofs.shelf.Lists.{take-append-drop, take-more, take-all, drop-more, getD-take, length-take}
 use Rattle.std.proofs.shelf.Elements.{all-getD, all-from-getD}
+use Rattle.std.proofs.shelf.Counted.{length-counting, getD-counting}
 use Rattle.std.proofs.shelf.Tests.{cases-eq, ne-eqb, eq-eqb, true≢false}
 use Rattle.model.specs.declared.refusal.Refusal.{Refusal}
 use Rattle.model.specs.Orders.{times, Listed, Order, Fresh, First-bad, Misnamed, not-one-each, bad-entry}
@@ -116,11 +118,9 @@ misnamed-no-order n o e (not-one-each ne r) h = ne (order-length n o h)
 misnamed-no-order n o e (bad-entry i l b r) h = b .bad (order-fresh n o h i (b .within))
 
 -- a job that stands nowhere in a list is counted 0 times, and the other way round
-pub times-none : (j : ℕ) (o : List ℕ) → Every (λ y. Decides false (y ≡ j)) o 0 (length o) → times j o ≡ 0
-times-none j [] h = refl
-times-none j (k ∷ o) h =
-    times-other j k o (λ e. let z : false ≡ true = h 0 0 (omega arith) (omega arith) .1 (sym e) in absurd (true≢false (sym z)))
-    ∙ times-none j o (λ i d l u. h (suc i) d (omega arith) (omega arith))
+pub times-absent : (j : ℕ) (o : List ℕ) → ((i : ℕ) → i < length o → getD o i 0 ≡ j → ⊥) → times j o ≡ 0
+times-absent j [] h = refl
+times-absent j (k ∷ o) h = times-other j k o (λ e. h 0 (omega arith) (sym e)) ∙ times-absent j o (λ i l. h (suc i) (omega arith))
 
 pub times-some : (j : ℕ) (o : List ℕ) (i : ℕ) → i < length o → getD o i 0 ≡ j → 1 ≤ times j o
 times-some j o i h e =
@@ -137,9 +137,21 @@ fresh-by-search n o i m true q l s =
     let same : times (getD o i 0) (take m o) ≡ times (getD o i 0) (take i o) = ap (λ (k : ℕ). times (getD o i 0) (take k o)) q in
     ((λ z. absurd (true≢false (sym z))), λ f. absurd (omega (arith, f .new)))
 fresh-by-search n o i m false q l s =
-    let none : times (getD o i 0) (take i o) ≡ 0 = ap (λ (k : ℕ). times (getD o i 0) (take k o)) (sym q) ∙ times-none (getD o i 0) (take m o) s in
+    let none : times (getD o i 0) (take i o) ≡ 0 = ap (λ (k : ℕ). times (getD o i 0) (take k o)) (sym q) ∙ times-absent (getD o i 0) (take m o) (λ k l e. true≢false (sym (s k 0 (omega arith) l .1 e))) in
     ((λ _. record { listed = l; new = none }), λ _. refl)
 
 pub refused-exactly : (n : ℕ) (o : List ℕ) (e : Refusal) → Misnamed n o e → Decides false (Order n o)
 refused-exactly n o e m =
     ((λ z. absurd (true≢false (sym z))), λ h. absurd (misnamed-no-order n o e m h))
+
+-- the jobs in the order of their numbers
+pub numbers-order : (n : ℕ) → Order n (counting 1 n)
+numbers-order n = fresh-order n (counting 1 n) (length-counting 1 n) (λ k h.
+    let at : getD (counting 1 n) k 0 ≡ 1 + k = getD-counting 1 n k 0 h in
+    record { listed = (omega arith, omega arith); new = none k h at })
+  where
+    none : (k : ℕ) → k < n → getD (counting 1 n) k 0 ≡ 1 + k → times (getD (counting 1 n) k 0) (take k (counting 1 n)) ≡ 0
+    none k h at = times-absent (getD (counting 1 n) k 0) (take k (counting 1 n)) (λ i l.
+        let long = length-take k (counting 1 n) in
+        let here : getD (take k (counting 1 n)) i 0 ≡ 1 + i = getD-take k (counting 1 n) i 0 (omega arith) ∙ getD-counting 1 n i 0 (omega arith) in
+        omega arith)
