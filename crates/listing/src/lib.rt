@@ -15,6 +15,7 @@ use jobs::joblist::JobList;
 use jobs::machine_job::MachineJob;
 use jobs::machine_job::MachineJobRecord;
 use machine::line::SlotDisplay;
+use machine::one_machine::OneMachine;
 use machine::schedule::Schedule;
 use model::refusal::Refusal;
 use model::refusal::RefusalFromAlloc;
@@ -33,10 +34,10 @@ fn numbers(heap: Global, count: usize) -> Result<Vec<usize>, Refusal>
 pub fn plan(heap: Global, bytes: &[u8]) -> Result<Schedule, Refusal>
     ensures { λ r. ⌜ Read-plan (now (bytes .entry)) r ⌝ }
 {
-    let mut jobs = JobList::new(heap);
-    jobs.read(heap, bytes)?;
-    let order = numbers(heap, jobs.count())?;
-    Schedule::of(heap, &jobs, &order)
+    let mut list = JobList::new(heap);
+    list.read(heap, bytes)?;
+    let order = numbers(heap, list.count())?;
+    OneMachine::new(list).schedule(heap, &order)
 }
 
 /// The lines of a schedule, and its worth in a line of its own.

@@ -9,10 +9,7 @@ ghost use Rattle.model.specs.Orders.{Order};
 ghost use Rattle.machine.specs.Rows.{rows-of};
 ghost use Rattle.machine.specs.Schedule.{Slotted, Scheduled};
 use crate::row::row_at;
-use jobs::joblist::JobList;
 use jobs::machine_job::MachineJob;
-use jobs::machine_job::MachineJobRecord;
-use model::order::check_order;
 use model::refusal::Refusal;
 use model::refusal::RefusalFromRefused;
 use std::alloc::Global;
@@ -33,7 +30,7 @@ pub struct Schedule {
 }
 
 /// Runs the jobs in order, each as soon as it may start and the machine is free.
-fn run(heap: Global, jobs: &[MachineJob], order: &[usize]) -> Result<Schedule, Refusal>
+pub(crate) fn run(heap: Global, jobs: &[MachineJob], order: &[usize]) -> Result<Schedule, Refusal>
     requires order { ⌜ Order (length (now jobs)) (now order) ⌝ }
     requires few { ⌜ length (now jobs) ≤ 128 ⌝ }
     ensures { λ r. ⌜ Scheduled (rows-of (now (jobs .entry))) (now (order .entry)) r ⌝ }
@@ -56,18 +53,6 @@ fn run(heap: Global, jobs: &[MachineJob], order: &[usize]) -> Result<Schedule, R
 }
 
 impl Schedule {
-    /// The schedule of an order of the listed jobs.
-    pub fn of(
-        heap: Global,
-        jobs: &JobList<MachineJob>,
-        order: &[usize],
-    ) -> Result<Schedule, Refusal>
-        ensures { λ r. ⌜ Scheduled (rows-of (vec-items (now (jobs .entry) .jobs))) (now (order .entry)) r ⌝ }
-    {
-        check_order(order, jobs.count())?;
-        run(heap, jobs.as_slice(), order)
-    }
-
     /// The greatest end plus tail.
     pub fn worth(&self) -> u64
         ensures { λ r. ⌜ r ≡ now (self .entry) .worth ⌝ }
