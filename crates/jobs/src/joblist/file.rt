@@ -3,7 +3,7 @@ ghost use mathlib.Core.Path.{_≡_};
 ghost use Prim.Native.Nat.{_/_, _≤_};
 ghost use mathlib.Core.List.{map};
 ghost use lib.ListN.{length};
-ghost use Rattle.std.specs.Of.Vec.{vec-items};
+ghost use Rattle.std.specs.Of.Vec.{vec-items, vec-len};
 ghost use Rattle.std.specs.Results.{Cases};
 ghost use Rattle.std.specs.Vec.{made};
 ghost use Rattle.std.specs.Vectors.{chunked};
@@ -23,7 +23,8 @@ use std::alloc::Global;
 
 /// The jobs of records, or the first fault of the first faulty record.
 fn read_jobs<J: Job>(heap: Global, records: &[[u8; 16]]) -> Result<Vec<J>, Refusal>
-    ensures { λ r. ⌜ Jobs-read spans row (now (records .entry)) r ⌝ }
+    ensures answer { λ r. ⌜ Jobs-read spans row (now (records .entry)) r ⌝ }
+    ensures long { λ r. ⌜ made r (λ js. vec-len js ≡ length (now (records .entry))) ⌝ }
 {
     let mut jobs = Vec::new(heap);
     for (index, bytes) in records.iter().enumerate() {
