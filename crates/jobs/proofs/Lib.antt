@@ -2,3 +2,4 @@ pub mod Fields
 pub mod Rows
 pub mod RoundTrip
 pub mod Reading
+pub mod Refusing

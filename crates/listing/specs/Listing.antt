@@ -57,3 +57,7 @@ pub data Shows (b : List ℕ) (t : List ℕ) : Type 0 where
 abbrev pub Listed-as : List ℕ → Result (String Global) Refusal → Type 0
 Listed-as b (Ok t) = Shows b (string-bytes t)
 Listed-as b (Err e) = returned e ≡ None
+
+-- No other text is shown for the file.
+abbrev pub One-text : List ℕ → List ℕ → Type 0
+One-text b t = (u : List ℕ) → Shows b u → u ≡ t

@@ -10,7 +10,7 @@ ghost use Rattle.std.specs.Vec.{made};
 ghost use Rattle.std.specs.declared.option.Option.the-variants.{None};
 ghost use Rattle.model.specs.Returned.{returned};
 ghost use Rattle.machine.specs.Schedule.{Schedules};
-ghost use Rattle.listing.specs.Listing.{Read-plan, text-of, Listed-as};
+ghost use Rattle.listing.specs.Listing.{Read-plan, text-of, Listed-as, One-text};
 use jobs::joblist::JobList;
 use jobs::machine_job::MachineJob;
 use jobs::machine_job::MachineJobRecord;
@@ -57,7 +57,8 @@ pub fn text(heap: Global, schedule: &Schedule) -> Result<String, Refusal>
 
 /// The listing of a file: its schedule, or the number under which it is refused. Only want of memory gives no listing.
 pub fn listing(heap: Global, bytes: &[u8]) -> Result<String, Refusal>
-    ensures { λ r. ⌜ Listed-as (now (bytes .entry)) r ⌝ }
+    ensures answer { λ r. ⌜ Listed-as (now (bytes .entry)) r ⌝ }
+    ensures only { λ r. ⌜ made r (λ t. One-text (now (bytes .entry)) (string-bytes t)) ⌝ }
 {
     match plan(heap, bytes) {
         Ok(schedule) => text(heap, &schedule),

@@ -1,3 +1,4 @@
 pub mod Slots
 pub mod Progress
 pub mod Text
+pub mod Same
