@@ -12,7 +12,7 @@ use Rattle.std.specs.declared.result.Result.the-variants.{Ok, Err}
 use Rattle.std.specs.declared.vec.Vec.{Vec}
 use Rattle.std.specs.shelf.Lists.{All}
 use Rattle.model.specs.declared.refusal.Refusal.{Refusal}
-use Rattle.model.specs.Returned.{Returns, returned}
+use Rattle.model.specs.Returned.{Returns, returned, Same-refusal}
 use Rattle.jobs.specs.declared.field.Span.{Span}
 use Rattle.jobs.specs.Fields.{Lawful, Fault}
 use Rattle.jobs.specs.Bytes.{fields-of, rows-of, file-of}
@@ -53,6 +53,11 @@ pub record Holds (spans : List Span) (rows : List (List ℕ)) (b : List ℕ) : T
 abbrev pub Read : {J : Type 0} → List Span → (J → List ℕ) → List J → List J → List ℕ → Result (Unit {0}) Refusal → Type 0
 Read spans row js js′ b (Ok u) = Holds spans (map row js′) b
 Read spans row js js′ b (Err e) = (js′ ≡ js) × Unread spans b e
+
+-- No other refusal is due to the file.
+abbrev pub One-refusal : List Span → List ℕ → Result (Unit {0}) Refusal → Type 0
+One-refusal spans b (Ok u) = (f : Refusal) → Unread spans b f → returned f ≡ None
+One-refusal spans b (Err e) = (f : Refusal) → Unread spans b f → Same-refusal e f
 
 -- The jobs of some records, or why they are not read.
 abbrev pub Jobs-read : {J : Type 0} → List Span → (J → List ℕ) → List (List ℕ) → Result (Vec J Global) Refusal → Type 0

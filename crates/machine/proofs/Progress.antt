@@ -16,6 +16,7 @@ use Rattle.machine.specs.declared.schedule.Slot.{Slot}
 use Rattle.machine.specs.declared.schedule.Schedule.{Schedule}
 use Rattle.machine.specs.Rows.{row-of, rows-of, row, head, work, tail, Low}
 use Rattle.machine.specs.Schedule.{slot, free-for, Slotted, delivered, Greatest, ended, free, worth, Schedules}
+use Rattle.machine.proofs.Same.{slots-same}
 use Rattle.machine.proofs.Slots.{Runs, free-after, slotted-push, greatest-push, free-append, worth-append}
 
 pub record Progress (rows : List Row) (o : List ℕ) (i : ℕ) (slots : List Slot) (t w : ℕ) : Type 0 where
@@ -77,9 +78,11 @@ pub progress-all : (rows : List Row) (o : List ℕ) (i : ℕ) (s : Schedule) (t 
 progress-all rows o i s t r few l u p =
     let all : take i o ≡ o = take-all i o l in
     let long = order-length (length rows) o r in
+    let slotted : Slotted rows o (vec-items (s .slots)) = subst (λ (q : List ℕ). Slotted rows q (vec-items (s .slots))) all (p .slotted) in
     record {
       order = r;
-      slotted = subst (λ (q : List ℕ). Slotted rows q (vec-items (s .slots))) all (p .slotted);
+      slotted = slotted;
+      only = λ other h. slots-same rows o other (vec-items (s .slots)) h slotted;
       greatest = p .greatest;
       worth-is = p .worth-at ∙ ap (worth rows) all;
       limit = omega (arith, p .worth-low);

@@ -60,10 +60,11 @@ worth-from rows t (j ∷ o) = max (ended rows t j + tail rows j) (worth-from row
 abbrev pub worth : List Row → List ℕ → ℕ
 worth rows o = worth-from rows 0 o
 
--- The schedule of an order: its slots, and their greatest delivery as its worth, which never passes 130,000,000.
+-- The schedule of an order: its slots, which are the only ones, and their greatest delivery as its worth, which never passes 130,000,000.
 pub record Schedules (rows : List Row) (o : List ℕ) (s : Schedule) : Type 0 where
   pub order : Order (length rows) o
   pub slotted : Slotted rows o (vec-items (s .slots))
+  pub only : (other : List Slot) → Slotted rows o other → other ≡ vec-items (s .slots)
   pub greatest : Greatest rows (vec-items (s .slots)) (s .worth)
   pub worth-is : s .worth ≡ worth rows o
   pub limit : s .worth ≤ 130000000

@@ -35,3 +35,9 @@ Returns e n vs = returned e ≡ Some (record { number = n; values = vs })
 -- The number alone.
 abbrev pub number-of : Refusal → Option ℕ
 number-of e = mapped (λ a. a .number) (returned e)
+
+-- Two refusals tell the caller the same number and values, unless one of them is want of memory.
+pub data Same-refusal (e f : Refusal) : Type 0 where
+  told : returned e ≡ returned f → Same-refusal e f
+  first-memory : returned e ≡ None → Same-refusal e f
+  second-memory : returned f ≡ None → Same-refusal e f

@@ -9,7 +9,7 @@ ghost use Rattle.std.specs.Vec.{made};
 ghost use Rattle.std.specs.Vectors.{chunked};
 ghost use Rattle.model.specs.Returned.{returned};
 ghost use Rattle.std.specs.declared.option.Option.the-variants.{None};
-ghost use Rattle.jobs.specs.Files.{Jobs-read, Read, Reads-back};
+ghost use Rattle.jobs.specs.Files.{Jobs-read, Read, One-refusal, Reads-back};
 ghost use Rattle.jobs.specs.Bytes.{file-of};
 use crate::job::Job;
 use crate::joblist::JobList;
@@ -37,7 +37,8 @@ fn read_jobs<J: Job>(heap: Global, records: &[[u8; 16]]) -> Result<Vec<J>, Refus
 impl<J: Job> JobList<J> {
     /// Reads a file in the place of this list; a file that is refused leaves the list as it was.
     pub fn read(&mut self, heap: Global, bytes: &[u8]) -> Result<(), Refusal>
-        ensures { λ r. ⌜ Read spans row (vec-items (now (self .entry) .jobs)) (vec-items (now (self .exit) .jobs)) (now (bytes .entry)) r ⌝ }
+        ensures answer { λ r. ⌜ Read spans row (vec-items (now (self .entry) .jobs)) (vec-items (now (self .exit) .jobs)) (now (bytes .entry)) r ⌝ }
+        ensures only { λ r. ⌜ One-refusal spans (now (bytes .entry)) r ⌝ }
     {
         let (records, rest) = bytes.as_chunks::<16>();
         if records.is_empty() || !rest.is_empty() {

@@ -11,6 +11,6 @@ use Rattle.listing.proofs.plan.Needs as need
 pub returns : need.returns
 returns c =
     let js = c .read .last .self .jobs in
-    read-plan (c .args .bytes .now) (vec-items js) (c .deref .result .now) (c .schedule .result) (c .in-Continue-read .ensures tt)
+    read-plan (c .args .bytes .now) (vec-items js) (c .deref .result .now) (c .schedule .result) (c .in-Continue-read .ensures tt .answer)
     (c .deref .ensures .value ∙ c .in-Continue-order .ensures tt ∙ ap (counting 1) (c .count .ensures ∙ js .ok .0))
     (subst (λ (l : JobList MachineJob). Scheduled (rows-of (vec-items (l .jobs))) (c .deref .result .now) (c .schedule .result)) (c .new .ensures) (c .schedule .ensures))
