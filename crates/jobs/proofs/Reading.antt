@@ -1,23 +1,22 @@
 -- Reading rows one after the other, and reading again what was written.
-use Prim.Native.Nat.{ℕ, zero, suc, _+_, _*_, _/_, _%_, _≤_, _<_}
+use Prim.Native.Nat.{ℕ, suc, _+_, _*_, _≤_, _<_}
 use mathlib.Core.Path.{_≡_, refl, sym, ap, subst, _∙_}
 use mathlib.Core.List.{List, [], _∷_, _++_, map}
 use native.Mathlib.Omega.{arith}
-use lib.ListN.{length, getD, take, drop}
-use Rattle.std.specs.Vectors.{chunked}
+use lib.ListN.{length, getD, take}
 use Rattle.std.specs.Results as results
 use Rattle.std.specs.declared.option.Option.the-variants.{None}
 use Rattle.std.specs.declared.result.Result.{Result}
 use Rattle.std.specs.declared.result.Result.the-variants.{Ok, Err}
 use Rattle.std.specs.shelf.Lists.{All}
-use Rattle.std.proofs.shelf.Lists.{map-more, map-push, take-all, getD-map, getD-take, length-map, length-take-le, joined-more}
-use Rattle.std.proofs.shelf.Elements.{all-getD, all-map}
+use Rattle.std.proofs.shelf.Lists.{map-more, take-all, getD-map, getD-take, length-map, length-take-le, joined-more}
+use Rattle.std.proofs.shelf.Elements.{all-getD}
 use Rattle.model.specs.declared.refusal.Refusal.{Refusal}
 use Rattle.model.specs.Returned.{returned}
 use Rattle.jobs.specs.declared.field.Span.{Span}
 use Rattle.jobs.specs.Fields.{Four, Lawful, Fault}
-use Rattle.jobs.specs.Bytes.{fields-of, record-of, rows-of, file-of}
-use Rattle.jobs.specs.Files.{First-fault, Misread, faulty, no-memory, Whole, Unread, not-records, too-many, misread, Holds, Read, Reads-back}
+use Rattle.jobs.specs.Bytes.{fields-of, record-of, rows-in, file-of}
+use Rattle.jobs.specs.Files.{First-fault, faulty, no-memory, Whole, Unread, not-records, too-many, misread, Holds, Read, Reads-back}
 use Rattle.jobs.proofs.Rows.{row-pushed}
 use Rattle.jobs.proofs.RoundTrip.{Bytes, file-rows, rows-file, length-file}
 
@@ -65,7 +64,7 @@ module _ {J : Type 0} (spans : List Span) (row : J → List ℕ) (records : List
 
 -- what is read holds the file
 pub file-held : {J : Type 0} (spans : List Span) (row : J → List ℕ) (js : List J) (b : List ℕ) → ((j : J) → Lawful spans (row j)) → Bytes b
-    → Whole b → length b ≤ 2048 → map row js ≡ rows-of b → Holds spans (map row js) b
+    → Whole b → length b ≤ 2048 → map row js ≡ rows-in b → Holds spans (map row js) b
 file-held spans row js b lawful small w few e =
     record {
       whole = w;
@@ -95,8 +94,8 @@ read-back spans row four lawful same js b few e ks ks′ r some = go r
     shaped : All Four (map row js)
     shaped = all-rows row Four four js
 
-    rows : rows-of b ≡ map row js
-    rows = ap rows-of e ∙ rows-file (map row js) shaped
+    rows : rows-in b ≡ map row js
+    rows = ap rows-in e ∙ rows-file (map row js) shaped
 
     long : length b ≡ length js * 16
     long = ap length e ∙ length-file (map row js) shaped ∙ ap (λ (n : ℕ). n * 16) (length-map js row)
@@ -104,10 +103,10 @@ read-back spans row four lawful same js b few e ks ks′ r some = go r
     whole : Whole b
     whole = record { some = omega (arith, long); whole = omega (arith, long) }
 
-    no-fault : (e : Refusal) → First-fault spans (rows-of b) e → ⊥
+    no-fault : (e : Refusal) → First-fault spans (rows-in b) e → ⊥
     no-fault e f =
-        let ok : All (Lawful spans) (rows-of b) = subst (All (Lawful spans)) (sym rows) (all-rows row (Lawful spans) lawful js) in
-        f .fault .bad (all-getD (Lawful spans) (rows-of b) (f .at) [] (f .within) ok (f .fault .at) (f .fault .within))
+        let ok : All (Lawful spans) (rows-in b) = subst (All (Lawful spans)) (sym rows) (all-rows row (Lawful spans) lawful js) in
+        f .fault .bad (all-getD (Lawful spans) (rows-in b) (f .at) [] (f .within) ok (f .fault .at) (f .fault .within))
 
     refused : (e : Refusal) → Unread spans b e → returned e ≡ None
     refused e (not-records n q) = absurd (n whole)

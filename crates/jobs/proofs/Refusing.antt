@@ -13,7 +13,7 @@ use Rattle.model.specs.declared.refusal.Refusal.{Refusal}
 use Rattle.model.specs.Returned.{returned, Same-refusal, told, first-memory, second-memory}
 use Rattle.jobs.specs.declared.field.Span.{Span}
 use Rattle.jobs.specs.Fields.{Lawful, Field-refusal, of-limits, of-fourth, Fault}
-use Rattle.jobs.specs.Bytes.{rows-of}
+use Rattle.jobs.specs.Bytes.{rows-in}
 use Rattle.jobs.specs.Files.{First-fault, faulty, no-memory, Holds, Unread, not-records, too-many, misread}
 
 -- the refusal for the field at an index is one
@@ -50,7 +50,7 @@ refused-one spans b e f (too-many x k r) (too-many y l s) = told (r ∙ sym s)
 refused-one spans b e f (too-many x k r) (misread y l s) = absurd (omega arith)
 refused-one spans b e f (misread x k r) (not-records y s) = absurd (y x)
 refused-one spans b e f (misread x k r) (too-many y l s) = absurd (omega arith)
-refused-one spans b e f (misread x k (faulty a)) (misread y l (faulty c)) = told (first-one spans (rows-of b) e f a c)
+refused-one spans b e f (misread x k (faulty a)) (misread y l (faulty c)) = told (first-one spans (rows-in b) e f a c)
 refused-one spans b e f (misread x k (faulty a)) (misread y l (no-memory s)) = second-memory s
 refused-one spans b e f (misread x k (no-memory r)) (misread y l s) = first-memory r
 
@@ -59,6 +59,6 @@ pub held-unrefused : (spans : List Span) (rows : List (List ℕ)) (b : List ℕ)
 held-unrefused spans rows b e h (not-records x r) = absurd (x (h .whole))
 held-unrefused spans rows b e h (too-many x y r) = absurd (omega (arith, h .few))
 held-unrefused spans rows b e h (misread x y (faulty f)) =
-    let lawful : All (Lawful spans) (rows-of b) = subst (All (Lawful spans)) (h .read) (h .lawful) in
-    absurd (f .fault .bad (all-getD (Lawful spans) (rows-of b) (f .at) [] (f .within) lawful (f .fault .at) (f .fault .within)))
+    let lawful : All (Lawful spans) (rows-in b) = subst (All (Lawful spans)) (h .read) (h .lawful) in
+    absurd (f .fault .bad (all-getD (Lawful spans) (rows-in b) (f .at) [] (f .within) lawful (f .fault .at) (f .fault .within)))
 held-unrefused spans rows b e h (misread x y (no-memory r)) = r

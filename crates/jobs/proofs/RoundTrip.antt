@@ -1,17 +1,17 @@
 -- Records and files there and back.
 use Prim.Native.Nat.{ℕ, zero, suc, _+_, _*_, _/_, _%_, _≤_, _<_}
-use mathlib.Core.Path.{_≡_, refl, sym, ap, subst, _∙_}
+use mathlib.Core.Path.{_≡_, refl, sym, ap, _∙_}
 use mathlib.Core.List.{List, [], _∷_, _++_, map}
 use native.Mathlib.Omega.{arith}
 use native.Mathlib.Nat.{div-div-eq-div-mul}
-use lib.ListN.{length, getD, take, drop}
+use lib.ListN.{length, take, drop}
 use lib.Seq.{take-add}
 use Rattle.std.specs.Vectors.{chunked}
 use Rattle.std.specs.shelf.Lists.{All, joined}
-use Rattle.std.proofs.shelf.Lists.{take-append-drop, take-all, take-at, drop-at, length-append, length-drop, length-take-le}
+use Rattle.std.proofs.shelf.Lists.{take-all, take-at, drop-at, length-append, length-drop, length-take-le}
 use Rattle.std.proofs.shelf.Elements.{all-take, all-drop}
 use Rattle.std.proofs.shelf.Bits.{div-mul-add, mod-mul-add}
-use Rattle.jobs.specs.Bytes.{number, word, fields-of, record-of, rows-of, file-of}
+use Rattle.jobs.specs.Bytes.{number, word, fields-of, record-of, rows-in, file-of}
 use Rattle.jobs.specs.Fields.{Four}
 use Rattle.jobs.proofs.Fields.{four}
 
@@ -91,7 +91,7 @@ record-fields : (r : List ℕ) → length r ≡ 16 → Bytes r → record-of (fi
 record-fields r l h = joined-map word number (chunked 4 4 r) ∙ rejoined 4 (λ w. word (number w)) word-number 4 r (omega arith) h ∙ take-all 16 r (omega arith)
 
 -- a file of whole records, read and written
-pub file-rows : (b : List ℕ) → length b % 16 ≡ 0 → Bytes b → file-of (rows-of b) ≡ b
+pub file-rows : (b : List ℕ) → length b % 16 ≡ 0 → Bytes b → file-of (rows-in b) ≡ b
 file-rows b l h =
     let k = length b / 16 in
     joined-map record-of fields-of (chunked 16 k b)
@@ -119,7 +119,7 @@ chunked-file (fs ∷ rows) h =
     ap (λ (x : List ℕ). map fields-of (chunked 16 (length rows) x)) (drop-at (record-of fs) (file-of rows) 16 l) ∙ chunked-file rows (h .1) in
     cc
 
-pub rows-file : (rows : List (List ℕ)) → All Four rows → rows-of (file-of rows) ≡ rows
+pub rows-file : (rows : List (List ℕ)) → All Four rows → rows-in (file-of rows) ≡ rows
 rows-file rows h =
     let l = length-file rows h in
     let n : length (file-of rows) / 16 ≡ length rows = omega arith in

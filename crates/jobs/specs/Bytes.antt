@@ -1,7 +1,6 @@
 -- Records as bytes: four numbers of four bytes, the low byte first.
-use Prim.Native.Nat.{ℕ, _+_, _*_, _/_, _%_, _<_}
-use mathlib.Core.Path.{_≡_}
-use mathlib.Core.List.{List, [], _∷_, _++_, map}
+use Prim.Native.Nat.{ℕ, _+_, _*_, _/_, _%_}
+use mathlib.Core.List.{List, [], _∷_, map}
 use lib.ListN.{length, getD}
 use Rattle.std.specs.Vectors.{chunked}
 use Rattle.std.specs.shelf.Lists.{joined}
@@ -21,8 +20,8 @@ abbrev pub record-of : List ℕ → List ℕ
 record-of fs = joined word fs
 
 -- A file is its records one after the other: the rows of a file are the fields of its records.
-abbrev pub rows-of : List ℕ → List (List ℕ)
-rows-of b = map fields-of (chunked 16 (length b / 16) b)
+abbrev pub rows-in : List ℕ → List (List ℕ)
+rows-in b = map fields-of (chunked 16 (length b / 16) b)
 
 abbrev pub file-of : List (List ℕ) → List ℕ
 file-of rows = joined record-of rows

@@ -1,7 +1,7 @@
 -- What a file of records is, and what reading it answers and leaves.
-use Prim.Native.Nat.{ℕ, _+_, _*_, _/_, _%_, _≤_, _<_}
+use Prim.Native.Nat.{ℕ, _+_, _*_, _%_, _≤_, _<_}
 use mathlib.Core.Path.{_≡_}
-use mathlib.Core.List.{List, [], _∷_, map}
+use mathlib.Core.List.{List, [], map}
 use lib.ListN.{length, getD}
 use Rattle.std.specs.Of.Vec.{vec-items}
 use Rattle.std.specs.Results as results
@@ -15,7 +15,7 @@ use Rattle.model.specs.declared.refusal.Refusal.{Refusal}
 use Rattle.model.specs.Returned.{Returns, returned, Same-refusal}
 use Rattle.jobs.specs.declared.field.Span.{Span}
 use Rattle.jobs.specs.Fields.{Lawful, Fault}
-use Rattle.jobs.specs.Bytes.{fields-of, rows-of, file-of}
+use Rattle.jobs.specs.Bytes.{fields-of, rows-in, file-of}
 use Rattle.jobs.specs.Lists.{most-jobs}
 
 -- The first faulty row, with the number of its job: the rows before it are lawful.
@@ -39,14 +39,14 @@ pub record Whole (b : List ℕ) : Type 0 where
 pub data Unread (spans : List Span) (b : List ℕ) (e : Refusal) : Type 0 where
   not-records : (Whole b → ⊥) → Returns e 1 [] → Unread spans b e
   too-many : Whole b → most-jobs * 16 < length b → Returns e 2 [] → Unread spans b e
-  misread : Whole b → length b ≤ most-jobs * 16 → Misread spans (rows-of b) e → Unread spans b e
+  misread : Whole b → length b ≤ most-jobs * 16 → Misread spans (rows-in b) e → Unread spans b e
 
 -- The list holds just the jobs of the file's records, and its records one after the other are the file.
 pub record Holds (spans : List Span) (rows : List (List ℕ)) (b : List ℕ) : Type 0 where
   pub whole : Whole b
   pub few : length b ≤ most-jobs * 16
   pub lawful : All (Lawful spans) rows
-  pub read : rows ≡ rows-of b
+  pub read : rows ≡ rows-in b
   pub written : file-of rows ≡ b
 
 -- A file is read in the place of the list, or the list stays as it was.

@@ -1,7 +1,5 @@
 // The four fields of a record and their limits.
-ghost use mathlib.Core.Path.{_≡_};
 ghost use Prim.Native.Nat.{_<_};
-ghost use Rattle.model.specs.Returned.{returned};
 ghost use Rattle.jobs.specs.Fields.{Field-refusal, Checked-fields};
 use model::refusal::Refusal;
 
@@ -11,6 +9,21 @@ pub struct Span {
     pub least: u32,
     pub most: u32,
 }
+
+/// A time, which may be 0.
+pub const TIME: Span = Span {
+    least: 0,
+    most: 1_000_000,
+};
+
+/// A work, which takes a minute at least.
+pub const WORK: Span = Span {
+    least: 1,
+    most: 1_000_000,
+};
+
+/// Nothing but 0.
+pub const ZERO: Span = Span { least: 0, most: 0 };
 
 /// The refusal for the field at an index from 0: the fourth has a refusal of its own.
 fn field_refusal(job: usize, index: usize) -> Refusal

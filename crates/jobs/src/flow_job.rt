@@ -3,6 +3,8 @@ ghost use Prim.Native.Nat.{_≤_};
 ghost use mathlib.Core.List.{[], _∷_};
 ghost use Rattle.jobs.specs.Kinds.{flow-spans};
 use crate::field::Span;
+use crate::field::WORK;
+use crate::field::ZERO;
 use crate::field::check_fields;
 use crate::job::Job;
 use model::refusal::Refusal;
@@ -22,21 +24,7 @@ pub struct FlowJob {
 }
 
 /// Three works and zero.
-const SPANS: [Span; 4] = [
-    Span {
-        least: 1,
-        most: 1_000_000,
-    },
-    Span {
-        least: 1,
-        most: 1_000_000,
-    },
-    Span {
-        least: 1,
-        most: 1_000_000,
-    },
-    Span { least: 0, most: 0 },
-];
+const SPANS: [Span; 4] = [WORK, WORK, WORK, ZERO];
 
 pub impl Job for FlowJob as FlowJobRecord {
     ghost spans = { flow-spans };

@@ -3,6 +3,9 @@ ghost use Prim.Native.Nat.{_≤_};
 ghost use mathlib.Core.List.{[], _∷_};
 ghost use Rattle.jobs.specs.Kinds.{machine-spans};
 use crate::field::Span;
+use crate::field::TIME;
+use crate::field::WORK;
+use crate::field::ZERO;
 use crate::field::check_fields;
 use crate::job::Job;
 use model::refusal::Refusal;
@@ -20,21 +23,7 @@ pub struct MachineJob {
 }
 
 /// Head, work, tail and zero.
-const SPANS: [Span; 4] = [
-    Span {
-        least: 0,
-        most: 1_000_000,
-    },
-    Span {
-        least: 1,
-        most: 1_000_000,
-    },
-    Span {
-        least: 0,
-        most: 1_000_000,
-    },
-    Span { least: 0, most: 0 },
-];
+const SPANS: [Span; 4] = [TIME, WORK, TIME, ZERO];
 
 pub impl Job for MachineJob as MachineJobRecord {
     ghost spans = { machine-spans };

@@ -4,7 +4,7 @@ use mathlib.Core.Path.{_≡_, refl, sym, ap, subst, _∙_}
 use mathlib.Core.List.{List, [], _∷_, _++_, map}
 use native.Mathlib.Omega.{arith}
 use lib.Chars.{codes}
-use lib.ListN.{length, getD, take}
+use lib.ListN.{length, take}
 use Rattle.std.specs.Iters.{counting}
 use Rattle.std.specs.Of.String.{string-bytes}
 use Rattle.std.specs.Of.Vec.{vec-items}
@@ -21,8 +21,7 @@ use Rattle.model.specs.Orders.{Order}
 use Rattle.model.specs.Returned.{returned}
 use Rattle.model.proofs.Naming.{numbers-order, misnamed-no-order}
 use Rattle.jobs.specs.declared.machine_job.MachineJob.{MachineJob}
-use Rattle.jobs.specs.Bytes.{rows-of}
-use Rattle.jobs.specs.Files.{Holds, Unread, misread, no-memory}
+use Rattle.jobs.specs.Files.{Holds, misread, no-memory}
 use Rattle.jobs.specs.Kinds.{machine-spans}
 use Rattle.machine.specs.declared.row.Row.{Row}
 use Rattle.machine.specs.declared.schedule.Schedule.{Schedule}

@@ -16,7 +16,7 @@ use Rattle.std.specs.declared.result.Result.the-variants.{Ok, Err}
 use Rattle.std.specs.declared.string.String.{String}
 use Rattle.model.specs.declared.refusal.Refusal.{Refusal}
 use Rattle.model.specs.Returned.{returned, number-of, Same-refusal, told, first-memory, second-memory}
-use Rattle.jobs.specs.Bytes.{rows-of}
+use Rattle.jobs.specs.Bytes.{rows-in}
 use Rattle.jobs.specs.Files.{Holds, Unread}
 use Rattle.jobs.specs.Kinds.{machine-spans}
 use Rattle.jobs.proofs.Refusing.{held-unrefused, refused-one}
@@ -38,8 +38,8 @@ unnumbered e n r h =
     let s : number-of e ≡ None = ap (mapped (λ a. a .number)) r in
     let z : _≡_ {A = ℕ} 0 1 = cc in omega arith
 
-clash : (b : List ℕ) (e : Refusal) (n : ℕ) → Holds machine-spans (rows-of b) b → Unread machine-spans b e → number-of e ≡ Some n → ⊥
-clash b e n h u = unnumbered e n (held-unrefused machine-spans (rows-of b) b e h u)
+clash : (b : List ℕ) (e : Refusal) (n : ℕ) → Holds machine-spans (rows-in b) b → Unread machine-spans b e → number-of e ≡ Some n → ⊥
+clash b e n h u = unnumbered e n (held-unrefused machine-spans (rows-in b) b e h u)
 
 same-number : (e f : Refusal) (n m : ℕ) → Same-refusal e f → number-of e ≡ Some n → number-of f ≡ Some m → n ≡ m
 same-number e f n m (told r) p q = let s : number-of e ≡ number-of f = ap (mapped (λ a. a .number)) r in cc

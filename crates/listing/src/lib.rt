@@ -1,7 +1,6 @@
 // From the bytes of a job file to the text of its listing.
 ghost use mathlib.Core.Path.{_≡_};
 ghost use Prim.Native.Nat.{_≤_};
-ghost use lib.ListN.{length};
 ghost use Rattle.std.specs.Iters.{counting};
 ghost use Rattle.std.specs.Of.Vec.{vec-items};
 ghost use Rattle.std.specs.Of.String.{string-bytes};
@@ -9,7 +8,6 @@ ghost use Rattle.std.specs.Results.{Cases};
 ghost use Rattle.std.specs.Vec.{made};
 ghost use Rattle.std.specs.declared.option.Option.the-variants.{None};
 ghost use Rattle.model.specs.Returned.{returned};
-ghost use Rattle.machine.specs.Schedule.{Schedules};
 ghost use Rattle.listing.specs.Listing.{Read-plan, text-of, Listed-as, One-text};
 use jobs::joblist::JobList;
 use jobs::machine_job::MachineJob;

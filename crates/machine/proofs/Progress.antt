@@ -1,8 +1,7 @@
 -- How far a schedule has come after the first i jobs of an order.
 use Prim.Native.Nat.{ℕ, suc, _+_, _*_, _-_, _≤_, _<_, max}
 use mathlib.Core.Path.{_≡_, refl, sym, ap, subst, _∙_}
-use mathlib.Core.List.{List, [], _∷_, _++_, map}
-use mathlib.Core.Logic.{inl}
+use mathlib.Core.List.{List, [], _∷_, _++_}
 use native.Mathlib.Omega.{arith}
 use lib.ListN.{length, getD, take}
 use Rattle.std.specs.Of.Vec.{vec-items}
@@ -15,9 +14,9 @@ use Rattle.machine.specs.declared.row.Row.{Row}
 use Rattle.machine.specs.declared.schedule.Slot.{Slot}
 use Rattle.machine.specs.declared.schedule.Schedule.{Schedule}
 use Rattle.machine.specs.Rows.{row-of, rows-of, row, head, work, tail, Low}
-use Rattle.machine.specs.Schedule.{slot, free-for, Slotted, delivered, Greatest, ended, free, worth, Schedules}
+use Rattle.machine.specs.Schedule.{free-for, Slotted, delivered, Greatest, ended, free, worth, Schedules}
 use Rattle.machine.proofs.Same.{slots-same}
-use Rattle.machine.proofs.Slots.{Runs, free-after, slotted-push, greatest-push, free-append, worth-append}
+use Rattle.machine.proofs.Slots.{free-after, slotted-push, greatest-push, free-append, worth-append}
 
 pub record Progress (rows : List Row) (o : List ℕ) (i : ℕ) (slots : List Slot) (t w : ℕ) : Type 0 where
   pub slotted : Slotted rows (take i o) slots
@@ -27,18 +26,6 @@ pub record Progress (rows : List Row) (o : List ℕ) (i : ℕ) (slots : List Slo
   pub worth-at : w ≡ worth rows (take i o)
   pub free-low : t ≤ i * 1000000 + 1000000
   pub worth-low : w ≤ i * 1000000 + 2000000
-
-pub progress-none : (rows : List Row) (o : List ℕ) (slots : List Slot) → slots ≡ [] → Progress rows o 0 slots 0 0
-progress-none rows o slots e =
-    subst (λ (s : List Slot). Progress rows o 0 s 0 0) (sym e) (record {
-      slotted = record { long = refl; jobs = λ i l. absurd (omega arith); starts = λ i l. absurd (omega arith); ends = λ i l. absurd (omega arith) };
-      greatest = record { most = λ i l. absurd (omega arith); reached = inl refl };
-      free-is = refl;
-      free-at = refl;
-      worth-at = refl;
-      free-low = omega arith;
-      worth-low = omega arith;
-    })
 
 -- one job more
 pub progress-more : (rows : List Row) (o : List ℕ) (i : ℕ) (slots : List Slot) (t w : ℕ) (r : Row) (s : Slot) → i < length o → r ≡ row rows (getD o i 0) → Low r → Progress rows o i slots t w

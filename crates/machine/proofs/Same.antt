@@ -1,13 +1,12 @@
 -- An order has one schedule.
-use Prim.Native.Nat.{ℕ, zero, suc, _+_, _≤_, _<_, max}
+use Prim.Native.Nat.{ℕ, zero, suc, _<_}
 use mathlib.Core.Path.{_≡_, refl, sym, ap, _∙_}
 use mathlib.Core.List.{List}
 use native.Mathlib.Omega.{arith}
-use lib.ListN.{length, getD}
+use lib.ListN.{length}
 use Rattle.std.proofs.shelf.Lists.{ext-getD}
 use Rattle.machine.specs.declared.row.Row.{Row}
 use Rattle.machine.specs.declared.schedule.Slot.{Slot}
-use Rattle.machine.specs.Rows.{head, work}
 use Rattle.machine.specs.Schedule.{no-slot, slot, free-for, Slotted}
 
 module _ (rows : List Row) (o : List ℕ) (a b : List Slot) (p : Slotted rows o a) (q : Slotted rows o b) where

@@ -1,16 +1,16 @@
 -- Slots one after the other.
-use Prim.Native.Nat.{ℕ, zero, suc, _+_, _*_, _-_, _≤_, _<_, max}
-use mathlib.Core.Path.{_≡_, refl, sym, ap, subst, _∙_}
-use mathlib.Core.List.{List, [], _∷_, _++_, map}
-use mathlib.Core.Logic.{_⊎_, inl, inr}
+use Prim.Native.Nat.{ℕ, zero, suc, _+_, _-_, _≤_, _<_, max}
+use mathlib.Core.Path.{_≡_, refl, sym, ap, _∙_}
+use mathlib.Core.List.{List, [], _∷_, _++_}
+use mathlib.Core.Logic.{inl, inr}
 use native.Mathlib.Omega.{arith}
-use lib.ListN.{length, getD, take}
-use Rattle.std.proofs.shelf.Lists.{take-more, take-all, length-push, getD-append-left, getD-push}
+use lib.ListN.{length, getD}
+use Rattle.std.proofs.shelf.Lists.{length-push, getD-append-left, getD-push}
 use Rattle.std.proofs.shelf.Tests.{cases-lt}
 use Rattle.machine.specs.declared.row.Row.{Row}
 use Rattle.machine.specs.declared.schedule.Slot.{Slot}
-use Rattle.machine.specs.Rows.{head, work, tail}
-use Rattle.machine.specs.Schedule.{no-slot, slot, free-for, Slotted, delivered, Greatest, ended, free, worth-from, worth}
+use Rattle.machine.specs.Rows.{head, work}
+use Rattle.machine.specs.Schedule.{no-slot, slot, free-for, Slotted, delivered, Greatest, ended, free, worth-from}
 
 -- one slot more
 module _ (slots : List Slot) (s : Slot) where

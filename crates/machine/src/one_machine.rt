@@ -26,13 +26,6 @@ impl OneMachine {
         OneMachine { list }
     }
 
-    /// The jobs, to be read.
-    pub fn list(&self) -> &JobList<MachineJob>
-        ensures { λ r. ⌜ now r ≡ now (self .entry) .list ⌝ }
-    {
-        &self.list
-    }
-
     /// The schedule of an order of the jobs.
     pub fn schedule(&self, heap: Global, order: &[usize]) -> Result<Schedule, Refusal>
         ensures { λ r. ⌜ Scheduled (rows-of (vec-items (now (self .entry) .list .jobs))) (now (order .entry)) r ⌝ }

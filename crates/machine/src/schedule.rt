@@ -1,13 +1,12 @@
 // The schedule of an order: starts, ends and worth.
 ghost use mathlib.Core.Path.{_≡_};
-ghost use mathlib.Core.List.{map};
 ghost use Prim.Native.Nat.{_+_, _*_, _≤_, _<_};
 ghost use lib.ListN.{length};
 ghost use Rattle.std.specs.Of.Vec.{vec-items};
 ghost use Rattle.jobs.specs.Lists.{At-place};
 ghost use Rattle.model.specs.Orders.{Order};
 ghost use Rattle.machine.specs.Rows.{rows-of};
-ghost use Rattle.machine.specs.Schedule.{Slotted, Scheduled};
+ghost use Rattle.machine.specs.Schedule.{Scheduled};
 use crate::row::row_at;
 use jobs::machine_job::MachineJob;
 use model::refusal::Refusal;

@@ -1,14 +1,13 @@
 -- Orders by counting, and the check of an order.
 use Prim.Native.Nat.{ℕ, zero, suc, _+_, _-_, _≤_, _<_}
-use mathlib.Core.Path.{_≡_, refl, sym, _∙_, ap, subst}
+use mathlib.Core.Path.{_≡_, refl, sym, _∙_, ap}
 use mathlib.Core.Bool.{Bool, true, false, cond, not}
-use mathlib.Core.Logic.{_⊎_, inl, inr}
+use mathlib.Core.Logic.{inl, inr}
 use mathlib.Core.List.{List, [], _∷_, _++_}
 use native.Mathlib.Omega.{arith}
-use lib.Dec.{eqb}
 use lib.ListN.{length, getD, take, drop}
 use Rattle.std.specs.Iters.{counting}
-use Rattle.std.specs.Orderings.{Decides, When}
+use Rattle.std.specs.Orderings.{Decides}
 use Rattle.std.specs.Places.{Some-of}
 use Rattle.std.specs.shelf.Lists.{All}
 use Rattle.std.proofs.shelf.Lists.{take-append-drop, take-more, take-all, drop-more, getD-take, length-take}
@@ -16,7 +15,7 @@ use Rattle.std.proofs.shelf.Elements.{all-getD, all-from-getD}
 use Rattle.std.proofs.shelf.Counted.{length-counting, getD-counting}
 use Rattle.std.proofs.shelf.Tests.{cases-eq, ne-eqb, eq-eqb, true≢false}
 use Rattle.model.specs.declared.refusal.Refusal.{Refusal}
-use Rattle.model.specs.Orders.{times, Listed, Order, Fresh, First-bad, Misnamed, not-one-each, bad-entry}
+use Rattle.model.specs.Orders.{times, Listed, Order, Fresh, Misnamed, not-one-each, bad-entry}
 
 pub times-same : (j k : ℕ) (o : List ℕ) → j ≡ k → times j (k ∷ o) ≡ 1 + times j o
 times-same j k o e = ap {B = ℕ} (λ (v : Bool). cond v 1 0 + times j o) (eq-eqb j k e)

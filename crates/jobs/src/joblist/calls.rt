@@ -19,9 +19,8 @@ impl<J: Job> JobList<J> {
     pub fn new(heap: Global) -> JobList<J>
         ensures { λ r. ⌜ vec-items (r .jobs) ≡ [] ⌝ }
     {
-        JobList {
-            jobs: Vec::new(heap),
-        }
+        let jobs = Vec::new(heap);
+        JobList { jobs }
     }
 
     /// How many jobs there are.

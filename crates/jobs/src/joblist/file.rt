@@ -1,12 +1,11 @@
 // Reading a file in the place of a list, and writing a list as a file.
 ghost use mathlib.Core.Path.{_≡_};
-ghost use Prim.Native.Nat.{_/_, _≤_};
+ghost use Prim.Native.Nat.{_/_};
 ghost use mathlib.Core.List.{map};
 ghost use lib.ListN.{length};
 ghost use Rattle.std.specs.Of.Vec.{vec-items, vec-len};
 ghost use Rattle.std.specs.Results.{Cases};
 ghost use Rattle.std.specs.Vec.{made};
-ghost use Rattle.std.specs.Vectors.{chunked};
 ghost use Rattle.model.specs.Returned.{returned};
 ghost use Rattle.std.specs.declared.option.Option.the-variants.{None};
 ghost use Rattle.jobs.specs.Files.{Jobs-read, Read, One-refusal, Reads-back};

@@ -1,13 +1,13 @@
-use mathlib.Core.Path.{_≡_, refl, sym, _∙_}
+use mathlib.Core.Path.{refl}
 use native.Mathlib.Omega.{arith}
-use lib.ListN.{length, getD}
+use lib.ListN.{length}
 use Rattle.std.specs.Of.Vec.{vec-items}
 use Rattle.std.proofs.shelf.Results.{err-from-errBy}
 use Rattle.std.proofs.shelf.Lists.{length-map}
 use Rattle.model.proofs.Naming.{order-length}
 use Rattle.machine.specs.Rows.{row-of, rows-of}
 use Rattle.machine.specs.Schedule.{no-memory}
-use Rattle.machine.proofs.Progress.{rows-order, next-listed, progress-none, progress-more, progress-all}
+use Rattle.machine.proofs.Progress.{rows-order, next-listed, progress-more, progress-all}
 use Rattle.machine.proofs.schedule.run.Needs as need
 
 pub row-at-row-requires : need.row-at-row-requires

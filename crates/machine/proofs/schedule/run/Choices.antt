@@ -1,4 +1,3 @@
-use Prim.Native.Nat.{_≤_}
 use Rattle.std.specs.Of.Vec.{vec-items}
 use Rattle.machine.specs.Rows.{rows-of}
 use Rattle.machine.proofs.Progress.{Progress}

@@ -1,7 +1,7 @@
-use mathlib.Core.Path.{refl, sym}
+use mathlib.Core.Path.{refl}
 use native.Mathlib.Omega.{arith}
 use Rattle.std.proofs.shelf.Ways.{not-from-decides}
-use Rattle.model.specs.Orders.{First-bad, not-one-each, bad-entry}
+use Rattle.model.specs.Orders.{not-one-each, bad-entry}
 use Rattle.model.proofs.Naming.{fresh-order, refused-exactly}
 use Rattle.model.proofs.order.check_order.Needs as need
 
