@@ -1,15 +1,15 @@
 // Job records and lists at and past their limits.
-use jobs::flow_job::FlowJob;
-use jobs::flow_job::FlowJobRecord;
-use jobs::job::Job;
 use jobs::joblist::JobList;
-use jobs::machine_job::MachineJob;
-use jobs::machine_job::MachineJobRecord;
-use jobs::record::encode;
 use model::refusal::Refusal;
 use model::refusal::RefusalDebug;
 use model::refusal::RefusalFromAlloc;
 use model::refusal::RefusalPartialEq;
+use records::flow_job::FlowJob;
+use records::flow_job::FlowJobRecord;
+use records::job::Job;
+use records::machine_job::MachineJob;
+use records::machine_job::MachineJobRecord;
+use records::record::encode;
 use std::alloc::Global;
 use std::test::*;
 

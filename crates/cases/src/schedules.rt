@@ -1,12 +1,12 @@
 // Schedules and listings.
 use jobs::joblist::JobList;
-use jobs::machine_job::MachineJob;
-use jobs::machine_job::MachineJobRecord;
 use listing::listing;
 use machine::one_machine::OneMachine;
 use model::refusal::Refusal;
 use model::refusal::RefusalDebug;
 use model::refusal::RefusalPartialEq;
+use records::machine_job::MachineJob;
+use records::machine_job::MachineJobRecord;
 use std::alloc::Global;
 use std::test::*;
 

@@ -13,12 +13,14 @@ use Rattle.std.proofs.shelf.Lists.{map-more, take-all, getD-map, getD-take, len
 use Rattle.std.proofs.shelf.Elements.{all-getD}
 use Rattle.model.specs.declared.refusal.Refusal.{Refusal}
 use Rattle.model.specs.Returned.{returned}
-use Rattle.jobs.specs.declared.field.Span.{Span}
-use Rattle.jobs.specs.Fields.{Four, Lawful, Fault}
-use Rattle.jobs.specs.Bytes.{fields-of, record-of, rows-in, file-of}
+use Rattle.records.specs.declared.field.Span.{Span}
+use Rattle.records.specs.Fields.{Four, Lawful, Fault}
+use Rattle.records.specs.Bytes.{fields-of, record-of}
+use Rattle.records.proofs.Words.{Bytes}
+use Rattle.jobs.specs.Files.{rows-in, file-of}
 use Rattle.jobs.specs.Files.{First-fault, faulty, no-memory, Whole, Unread, not-records, too-many, misread, Holds, Read, Reads-back}
 use Rattle.jobs.proofs.Rows.{row-pushed}
-use Rattle.jobs.proofs.RoundTrip.{Bytes, file-rows, rows-file, length-file}
+use Rattle.jobs.proofs.RoundTrip.{file-rows, rows-file, length-file}
 
 -- what holds of every job holds of each row
 pub all-rows : {J : Type 0} (row : J → List ℕ) (P : List ℕ → Type 0) → ((j : J) → P (row j)) → (js : List J) → All P (map row js)

@@ -11,9 +11,9 @@ use Rattle.std.proofs.shelf.Elements.{all-getD}
 use Rattle.std.proofs.shelf.Tests.{cases-lt}
 use Rattle.model.specs.declared.refusal.Refusal.{Refusal}
 use Rattle.model.specs.Returned.{returned, Same-refusal, told, first-memory, second-memory}
-use Rattle.jobs.specs.declared.field.Span.{Span}
-use Rattle.jobs.specs.Fields.{Lawful, Field-refusal, of-limits, of-fourth, Fault}
-use Rattle.jobs.specs.Bytes.{rows-in}
+use Rattle.records.specs.declared.field.Span.{Span}
+use Rattle.records.specs.Fields.{Lawful, Field-refusal, of-limits, of-fourth, Fault}
+use Rattle.jobs.specs.Files.{rows-in}
 use Rattle.jobs.specs.Files.{First-fault, faulty, no-memory, Holds, Unread, not-records, too-many, misread}
 
 -- the refusal for the field at an index is one

@@ -1,5 +1,5 @@
 -- What a file of records is, and what reading it answers and leaves.
-use Prim.Native.Nat.{ℕ, _+_, _*_, _%_, _≤_, _<_}
+use Prim.Native.Nat.{ℕ, _+_, _*_, _/_, _%_, _≤_, _<_}
 use mathlib.Core.Path.{_≡_}
 use mathlib.Core.List.{List, [], map}
 use lib.ListN.{length, getD}
@@ -10,13 +10,21 @@ use Rattle.std.specs.declared.option.Option.the-variants.{None}
 use Rattle.std.specs.declared.result.Result.{Result}
 use Rattle.std.specs.declared.result.Result.the-variants.{Ok, Err}
 use Rattle.std.specs.declared.vec.Vec.{Vec}
-use Rattle.std.specs.shelf.Lists.{All}
+use Rattle.std.specs.Vectors.{chunked}
+use Rattle.std.specs.shelf.Lists.{All, joined}
 use Rattle.model.specs.declared.refusal.Refusal.{Refusal}
 use Rattle.model.specs.Returned.{Returns, returned, Same-refusal}
-use Rattle.jobs.specs.declared.field.Span.{Span}
-use Rattle.jobs.specs.Fields.{Lawful, Fault}
-use Rattle.jobs.specs.Bytes.{fields-of, rows-in, file-of}
+use Rattle.records.specs.declared.field.Span.{Span}
+use Rattle.records.specs.Fields.{Lawful, Fault}
+use Rattle.records.specs.Bytes.{fields-of, record-of}
 use Rattle.jobs.specs.Lists.{most-jobs}
+
+-- A file is its records one after the other: the rows in a file are the fields of its records.
+abbrev pub rows-in : List ℕ → List (List ℕ)
+rows-in b = map fields-of (chunked 16 (length b / 16) b)
+
+abbrev pub file-of : List (List ℕ) → List ℕ
+file-of rows = joined record-of rows
 
 -- The first faulty row, with the number of its job: the rows before it are lawful.
 pub record First-fault (spans : List Span) (rows : List (List ℕ)) (e : Refusal) : Type 0 where

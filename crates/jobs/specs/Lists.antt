@@ -11,8 +11,8 @@ use Rattle.std.specs.declared.result.Result.{Result}
 use Rattle.std.specs.declared.result.Result.the-variants.{Ok, Err}
 use Rattle.model.specs.declared.refusal.Refusal.{Refusal}
 use Rattle.model.specs.Returned.{Returns, returned}
-use Rattle.jobs.specs.declared.field.Span.{Span}
-use Rattle.jobs.specs.Fields.{Lawful, Fault}
+use Rattle.records.specs.declared.field.Span.{Span}
+use Rattle.records.specs.Fields.{Lawful, Fault}
 
 -- The most jobs that a list holds.
 abbrev pub most-jobs : ℕ

@@ -1,7 +1,2 @@
-// Job records of sixteen bytes, and lists of jobs.
-pub mod field;
-pub mod flow_job;
-pub mod job;
+// Lists of jobs, and the files that hold them.
 pub mod joblist;
-pub mod machine_job;
-pub mod record;

@@ -20,9 +20,9 @@ use Rattle.model.specs.declared.refusal.Refusal.{Refusal}
 use Rattle.model.specs.Orders.{Order}
 use Rattle.model.specs.Returned.{returned}
 use Rattle.model.proofs.Naming.{numbers-order, misnamed-no-order}
-use Rattle.jobs.specs.declared.machine_job.MachineJob.{MachineJob}
+use Rattle.records.specs.declared.machine_job.MachineJob.{MachineJob}
+use Rattle.records.specs.Kinds.{machine-spans}
 use Rattle.jobs.specs.Files.{Holds, misread, no-memory}
-use Rattle.jobs.specs.Kinds.{machine-spans}
 use Rattle.machine.specs.declared.row.Row.{Row}
 use Rattle.machine.specs.declared.schedule.Schedule.{Schedule}
 use Rattle.machine.specs.declared.schedule.Slot.{Slot}

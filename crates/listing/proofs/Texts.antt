@@ -16,9 +16,9 @@ use Rattle.std.specs.declared.result.Result.the-variants.{Ok, Err}
 use Rattle.std.specs.declared.string.String.{String}
 use Rattle.model.specs.declared.refusal.Refusal.{Refusal}
 use Rattle.model.specs.Returned.{returned, number-of, Same-refusal, told, first-memory, second-memory}
-use Rattle.jobs.specs.Bytes.{rows-in}
+use Rattle.records.specs.Kinds.{machine-spans}
+use Rattle.jobs.specs.Files.{rows-in}
 use Rattle.jobs.specs.Files.{Holds, Unread}
-use Rattle.jobs.specs.Kinds.{machine-spans}
 use Rattle.jobs.proofs.Refusing.{held-unrefused, refused-one}
 use Rattle.machine.specs.declared.schedule.Schedule.{Schedule}
 use Rattle.machine.specs.declared.schedule.Slot.{Slot}

@@ -10,13 +10,13 @@ ghost use Rattle.std.specs.declared.option.Option.the-variants.{None};
 ghost use Rattle.model.specs.Returned.{returned};
 ghost use Rattle.listing.specs.Listing.{Read-plan, text-of, Listed-as, One-text};
 use jobs::joblist::JobList;
-use jobs::machine_job::MachineJob;
-use jobs::machine_job::MachineJobRecord;
 use machine::line::SlotDisplay;
 use machine::one_machine::OneMachine;
 use machine::schedule::Schedule;
 use model::refusal::Refusal;
 use model::refusal::RefusalFromAlloc;
+use records::machine_job::MachineJob;
+use records::machine_job::MachineJobRecord;
 use std::alloc::Global;
 
 /// The jobs from 1 to `count` in the order of their numbers.

@@ -9,7 +9,7 @@ use Rattle.std.proofs.shelf.Lists.{take-more, take-all, length-push, length-map
 use Rattle.std.proofs.shelf.Elements.{all-getD}
 use Rattle.model.specs.Orders.{Listed, Order}
 use Rattle.model.proofs.Naming.{order-length}
-use Rattle.jobs.specs.declared.machine_job.MachineJob.{MachineJob}
+use Rattle.records.specs.declared.machine_job.MachineJob.{MachineJob}
 use Rattle.machine.specs.declared.row.Row.{Row}
 use Rattle.machine.specs.declared.schedule.Slot.{Slot}
 use Rattle.machine.specs.declared.schedule.Schedule.{Schedule}

@@ -2,7 +2,7 @@
 use Prim.Native.Nat.{ℕ, _-_, _≤_}
 use mathlib.Core.List.{List, map}
 use lib.ListN.{getD}
-use Rattle.jobs.specs.declared.machine_job.MachineJob.{MachineJob}
+use Rattle.records.specs.declared.machine_job.MachineJob.{MachineJob}
 use Rattle.machine.specs.declared.row.Row.{Row}
 
 -- The row of a listed job, and those of a list.

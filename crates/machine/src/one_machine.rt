@@ -6,10 +6,10 @@ ghost use Rattle.machine.specs.Schedule.{Scheduled};
 use crate::schedule::Schedule;
 use crate::schedule::run;
 use jobs::joblist::JobList;
-use jobs::machine_job::MachineJob;
-use jobs::machine_job::MachineJobRecord;
 use model::order::check_order;
 use model::refusal::Refusal;
+use records::machine_job::MachineJob;
+use records::machine_job::MachineJobRecord;
 use std::alloc::Global;
 
 /// One machine with its jobs. The list moves in, and no call adds a job to it.

@@ -3,7 +3,7 @@ ghost use mathlib.Core.Path.{_≡_};
 ghost use lib.ListN.{length};
 ghost use Rattle.model.specs.Orders.{Listed};
 ghost use Rattle.machine.specs.Rows.{row-of, rows-of, row, Low};
-use jobs::machine_job::MachineJob;
+use records::machine_job::MachineJob;
 
 /// A job's times in minutes: from when on it may start, how long it holds the machine, and how long it still takes after that.
 #[derive(Clone, Copy)]

@@ -8,9 +8,9 @@ ghost use Rattle.model.specs.Orders.{Order};
 ghost use Rattle.machine.specs.Rows.{rows-of};
 ghost use Rattle.machine.specs.Schedule.{Scheduled};
 use crate::row::row_at;
-use jobs::machine_job::MachineJob;
 use model::refusal::Refusal;
 use model::refusal::RefusalFromRefused;
+use records::machine_job::MachineJob;
 use std::alloc::Global;
 
 /// When a job starts and ends on the machine.

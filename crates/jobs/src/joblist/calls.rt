@@ -3,12 +3,12 @@ ghost use mathlib.Core.Path.{_≡_};
 ghost use mathlib.Core.List.{[], map};
 ghost use Rattle.std.specs.Of.Vec.{vec-items, vec-len};
 ghost use Rattle.jobs.specs.Lists.{Added, At-place};
-ghost use Rattle.jobs.specs.Bytes.{record-of};
-use crate::job::Job;
+ghost use Rattle.records.specs.Bytes.{record-of};
 use crate::joblist::JobList;
-use crate::record::encode;
 use model::refusal::Refusal;
 use model::refusal::RefusalFromRefused;
+use records::job::Job;
+use records::record::encode;
 use std::alloc::Global;
 
 /// The most jobs that a list holds.

@@ -9,15 +9,15 @@ ghost use Rattle.std.specs.Vec.{made};
 ghost use Rattle.model.specs.Returned.{returned};
 ghost use Rattle.std.specs.declared.option.Option.the-variants.{None};
 ghost use Rattle.jobs.specs.Files.{Jobs-read, Read, One-refusal, Reads-back};
-ghost use Rattle.jobs.specs.Bytes.{file-of};
-use crate::job::Job;
+ghost use Rattle.jobs.specs.Files.{file-of};
 use crate::joblist::JobList;
 use crate::joblist::calls::MOST_JOBS;
-use crate::record::decode;
-use crate::record::encode;
 use model::refusal::Refusal;
 use model::refusal::RefusalFromAlloc;
 use model::refusal::RefusalFromRefused;
+use records::job::Job;
+use records::record::decode;
+use records::record::encode;
 use std::alloc::Global;
 
 /// The jobs of records, or the first fault of the first faulty record.

@@ -1,8 +1,8 @@
 use mathlib.Core.Path.{ap, subst, _∙_}
 use Rattle.std.specs.Iters.{counting}
 use Rattle.std.specs.Of.Vec.{vec-items}
+use Rattle.records.specs.declared.machine_job.MachineJob.{MachineJob}
 use Rattle.jobs.specs.declared.joblist.JobList.{JobList}
-use Rattle.jobs.specs.declared.machine_job.MachineJob.{MachineJob}
 use Rattle.machine.specs.Rows.{rows-of}
 use Rattle.machine.specs.Schedule.{Scheduled}
 use Rattle.listing.proofs.Plans.{read-plan}

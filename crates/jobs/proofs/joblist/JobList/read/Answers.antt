@@ -6,7 +6,7 @@ use lib.ListN.{length}
 use Rattle.std.specs.Of.Vec.{vec-items}
 use Rattle.std.proofs.shelf.Elements.{all-from-getD}
 use Rattle.std.proofs.shelf.Tests.{eqb-true, eqb-false}
-use Rattle.jobs.specs.Bytes.{fields-of}
+use Rattle.records.specs.Bytes.{fields-of}
 use Rattle.jobs.proofs.Reading.{file-held}
 use Rattle.jobs.proofs.Refusing.{held-unrefused}
 use Rattle.jobs.proofs.joblist.JobList.read.Needs as need

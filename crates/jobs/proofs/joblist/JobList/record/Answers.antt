@@ -1,6 +1,6 @@
 use mathlib.Core.Path.{ap, _∙_}
 use Rattle.std.specs.Of.Vec.{vec-items}
-use Rattle.jobs.specs.Bytes.{record-of}
+use Rattle.records.specs.Bytes.{record-of}
 use Rattle.jobs.proofs.Rows.{at-map, at-map-none}
 use Rattle.jobs.proofs.joblist.JobList.record.Needs as need
 

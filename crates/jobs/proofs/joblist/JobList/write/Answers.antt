@@ -1,7 +1,7 @@
 use mathlib.Core.Path.{ap, _∙_}
 use native.Mathlib.Omega.{arith}
 use Rattle.std.specs.Of.Vec.{vec-items}
-use Rattle.jobs.specs.Bytes.{record-of}
+use Rattle.records.specs.Bytes.{record-of}
 use Rattle.jobs.proofs.Reading.{file-more, file-all, read-back}
 use Rattle.jobs.proofs.joblist.JobList.write.Needs as need
 

@@ -2,7 +2,7 @@ use mathlib.Core.Path.{_≡_}
 use mathlib.Core.List.{map}
 use lib.ListN.{take}
 use Rattle.std.specs.Of.Vec.{vec-items}
-use Rattle.jobs.specs.Bytes.{file-of}
+use Rattle.jobs.specs.Files.{file-of}
 use Rattle.jobs.proofs.joblist.JobList.write.Given as given
 
 abbrev pub Inv-loop-job : given.InvT-loop-job

@@ -1,7 +1,7 @@
 // A job of one machine.
 ghost use Prim.Native.Nat.{_≤_};
 ghost use mathlib.Core.List.{[], _∷_};
-ghost use Rattle.jobs.specs.Kinds.{machine-spans};
+ghost use Rattle.records.specs.Kinds.{machine-spans};
 use crate::field::Span;
 use crate::field::TIME;
 use crate::field::WORK;

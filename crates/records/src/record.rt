@@ -1,6 +1,6 @@
 // A record: four fields of four bytes, the low byte first.
 ghost use mathlib.Core.Path.{_≡_};
-ghost use Rattle.jobs.specs.Bytes.{fields-of, record-of};
+ghost use Rattle.records.specs.Bytes.{fields-of, record-of};
 
 /// The four fields of a record.
 pub fn decode(bytes: &[u8; 16]) -> [u32; 4]

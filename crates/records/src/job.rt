@@ -2,8 +2,8 @@
 ghost use mathlib.Core.Path.{_≡_};
 ghost use Prim.Native.Nat.{ℕ};
 ghost use mathlib.Core.List.{List};
-ghost use Rattle.jobs.specs.declared.field.Span.{Span};
-ghost use Rattle.jobs.specs.Fields.{Four, Lawful, Taken};
+ghost use Rattle.records.specs.declared.field.Span.{Span};
+ghost use Rattle.records.specs.Fields.{Four, Lawful, Taken};
 use model::refusal::Refusal;
 
 /// A kind of job: its values are made from the four fields of a record, and give them back.

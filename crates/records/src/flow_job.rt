@@ -1,7 +1,7 @@
 // A job of the flow shop.
 ghost use Prim.Native.Nat.{_≤_};
 ghost use mathlib.Core.List.{[], _∷_};
-ghost use Rattle.jobs.specs.Kinds.{flow-spans};
+ghost use Rattle.records.specs.Kinds.{flow-spans};
 use crate::field::Span;
 use crate::field::WORK;
 use crate::field::ZERO;

@@ -1,6 +1,6 @@
 // The four fields of a record and their limits.
 ghost use Prim.Native.Nat.{_<_};
-ghost use Rattle.jobs.specs.Fields.{Field-refusal, Checked-fields};
+ghost use Rattle.records.specs.Fields.{Field-refusal, Checked-fields};
 use model::refusal::Refusal;
 
 /// The least and the greatest number that a field may hold.

@@ -1,5 +1,5 @@
-use Rattle.jobs.proofs.Fields.{four-words}
-use Rattle.jobs.proofs.record.encode.Needs as need
+use Rattle.records.proofs.Fields.{four-words}
+use Rattle.records.proofs.record.encode.Needs as need
 
 pub returns : need.returns
 returns c =

@@ -8,7 +8,7 @@ use Rattle.std.specs.declared.result.Result.the-variants.{Ok, Err}
 use Rattle.std.specs.shelf.Lists.{All}
 use Rattle.model.specs.declared.refusal.Refusal.{Refusal}
 use Rattle.model.specs.Returned.{Returns}
-use Rattle.jobs.specs.declared.field.Span.{Span}
+use Rattle.records.specs.declared.field.Span.{Span}
 
 -- Four numbers of 32 bits.
 pub record Four (fs : List ℕ) : Type 0 where

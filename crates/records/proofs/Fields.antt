@@ -2,11 +2,11 @@
 use Prim.Native.Nat.{ℕ, _≤_}
 use mathlib.Core.Path.{_≡_, refl, sym, ap, _∙_, PathP}
 use mathlib.Core.HLevel.{isProp→PathP}
-use native.Mathlib.Bridge.{le-prop}
 use mathlib.Core.List.{List, [], _∷_}
+use native.Mathlib.Bridge.{le-prop}
 use native.Mathlib.Omega.{arith}
 use lib.ListN.{length, getD}
-use Rattle.jobs.specs.Bytes.{word, record-of}
+use Rattle.records.specs.Bytes.{word, record-of}
 
 pub four : (fs : List ℕ) → length fs ≡ 4 → fs ≡ getD fs 0 0 ∷ getD fs 1 0 ∷ getD fs 2 0 ∷ getD fs 3 0 ∷ []
 four (a ∷ b ∷ c ∷ d ∷ []) h = refl

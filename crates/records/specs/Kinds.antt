@@ -1,6 +1,6 @@
 -- The limits of the fields of each kind of job.
 use mathlib.Core.List.{List, [], _∷_}
-use Rattle.jobs.specs.declared.field.Span.{Span}
+use Rattle.records.specs.declared.field.Span.{Span}
 
 -- A time is 0 to 1,000,000 minutes, and a work 1 at least.
 abbrev pub time : Span

@@ -1,6 +1,6 @@
 use native.Mathlib.Omega.{arith}
-use Rattle.jobs.proofs.Fields.{three-and-zero}
-use Rattle.jobs.proofs.flow_job.FlowJobRecord.from_fields.Needs as need
+use Rattle.records.proofs.Fields.{three-and-zero}
+use Rattle.records.proofs.machine_job.MachineJobRecord.from_fields.Needs as need
 
 pub returns : need.returns
 returns c =

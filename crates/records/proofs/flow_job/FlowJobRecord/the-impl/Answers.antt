@@ -2,8 +2,8 @@ use Prim.Native.Nat.{ℕ}
 use mathlib.Core.Path.{_≡_, ap}
 use mathlib.Core.List.{List}
 use lib.ListN.{getD}
-use Rattle.jobs.proofs.Fields.{low-path, high-path}
-use Rattle.jobs.proofs.flow_job.FlowJobRecord.the-impl.Needs as need
+use Rattle.records.proofs.Fields.{low-path, high-path}
+use Rattle.records.proofs.flow_job.FlowJobRecord.the-impl.Needs as need
 
 -- the limits are propositions, so jobs with the same numbers are the same
 pub same-law : need.same-law

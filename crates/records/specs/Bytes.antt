@@ -1,7 +1,7 @@
 -- Records as bytes: four numbers of four bytes, the low byte first.
 use Prim.Native.Nat.{ℕ, _+_, _*_, _/_, _%_}
 use mathlib.Core.List.{List, [], _∷_, map}
-use lib.ListN.{length, getD}
+use lib.ListN.{getD}
 use Rattle.std.specs.Vectors.{chunked}
 use Rattle.std.specs.shelf.Lists.{joined}
 
@@ -18,10 +18,3 @@ fields-of r = map number (chunked 4 4 r)
 
 abbrev pub record-of : List ℕ → List ℕ
 record-of fs = joined word fs
-
--- A file is its records one after the other: the rows of a file are the fields of its records.
-abbrev pub rows-in : List ℕ → List (List ℕ)
-rows-in b = map fields-of (chunked 16 (length b / 16) b)
-
-abbrev pub file-of : List (List ℕ) → List ℕ
-file-of rows = joined record-of rows
