@@ -51,7 +51,7 @@ fn machine_fields_at_their_limits(rt: LibcRuntime) -> Result<(), Fail> {
             [0, 1, 1_000_001, 0],
             Refusal::FieldLimits { job: 2, field: 3 },
         ),
-        ([0, 1, 0, 1], Refusal::FieldNotZero { job: 2 }),
+        ([0, 1, 0, 1], Refusal::FourthField { job: 2 }),
         (
             [0, 0, 1_000_001, 1],
             Refusal::FieldLimits { job: 2, field: 2 },
@@ -80,7 +80,7 @@ fn flow_fields_at_their_limits(rt: LibcRuntime) -> Result<(), Fail> {
             [1, 1, 1_000_001, 1],
             Refusal::FieldLimits { job: 1, field: 3 },
         ),
-        ([1, 1, 1, 1], Refusal::FieldNotZero { job: 1 }),
+        ([1, 1, 1, 1], Refusal::FourthField { job: 1 }),
     ];
     for (row, refusal) in faults {
         check_eq(answer::<FlowJob>(heap, &[row, [0, 0, 0, 0]]), Err(refusal))?;
@@ -93,7 +93,7 @@ fn records_go_before_fields(rt: LibcRuntime) -> Result<(), Fail> {
     let rows = [[0, 1, 0, 7], [0, 0, 0, 0]];
     check_eq(
         answer::<MachineJob>(rt.alloc(), &rows),
-        Err(Refusal::FieldNotZero { job: 1 }),
+        Err(Refusal::FourthField { job: 1 }),
     )
 }
 

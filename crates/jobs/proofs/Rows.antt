@@ -6,7 +6,7 @@ use mathlib.Core.Logic.{inl, inr}
 use native.Mathlib.Omega.{arith}
 use Rattle.std.specs.declared.option.Option.the-variants.{Some, None}
 use Rattle.std.proofs.shelf.Lists.{map-push, length-map, getD-map}
-use Rattle.jobs.specs.Lists.{At-place}
+use Rattle.model.specs.Places.{At-place}
 
 -- the rows after a job with the fields fs is pushed
 pub row-pushed : {J : Type 0} (row : J → List ℕ) (js js′ : List J) (j : J) (fs : List ℕ)

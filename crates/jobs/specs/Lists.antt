@@ -1,12 +1,10 @@
 -- What the calls of a list of jobs answer and leave.
 -- A kind of jobs has the limits `spans` of its four fields, and `row` gives the four fields of a job.
-use Prim.Native.Nat.{ℕ, _+_, _-_, _≤_, _<_}
+use Prim.Native.Nat.{ℕ, _+_, _-_, _<_}
 use mathlib.Core.Path.{_≡_}
 use mathlib.Core.List.{List, [], _∷_, _++_, map}
-use mathlib.Core.Logic.{_⊎_}
-use lib.ListN.{length, getD}
-use Rattle.std.specs.declared.option.Option.{Option}
-use Rattle.std.specs.declared.option.Option.the-variants.{Some, None}
+use lib.ListN.{length}
+use Rattle.std.specs.declared.option.Option.the-variants.{None}
 use Rattle.std.specs.declared.result.Result.{Result}
 use Rattle.std.specs.declared.result.Result.the-variants.{Ok, Err}
 use Rattle.model.specs.declared.refusal.Refusal.{Refusal}
@@ -17,11 +15,6 @@ use Rattle.records.specs.Fields.{Lawful, Fault}
 -- The most jobs that a list holds.
 abbrev pub most-jobs : ℕ
 most-jobs = 128
-
--- What stands at a place from 1; none where there is no such place.
-abbrev pub At-place : {X : Type 0} → List X → ℕ → Option X → Type 0
-At-place xs place (Some x) = (1 ≤ place) × (place ≤ length xs) × (x ≡ getD xs (place - 1) x)
-At-place xs place None = (place ≡ 0) ⊎ (length xs < place)
 
 -- Why a job is not added to n jobs: with 2 where the list is full, else for the fault of its fields under the number that it would get.
 -- Only want of memory keeps a lawful job out of a list with room.

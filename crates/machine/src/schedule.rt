@@ -1,13 +1,14 @@
 // The schedule of an order: starts, ends and worth.
 ghost use mathlib.Core.Path.{_≡_};
-ghost use Prim.Native.Nat.{_+_, _*_, _≤_, _<_};
+ghost use Prim.Native.Nat.{_≤_};
 ghost use lib.ListN.{length};
 ghost use Rattle.std.specs.Of.Vec.{vec-items};
-ghost use Rattle.jobs.specs.Lists.{At-place};
+ghost use Rattle.model.specs.Places.{At-place};
 ghost use Rattle.model.specs.Orders.{Order};
 ghost use Rattle.machine.specs.Rows.{rows-of};
 ghost use Rattle.machine.specs.Schedule.{Scheduled};
 use crate::row::row_at;
+use model::place::at_place;
 use model::refusal::Refusal;
 use model::refusal::RefusalFromRefused;
 use records::machine_job::MachineJob;
@@ -70,9 +71,6 @@ impl Schedule {
     pub fn slot(&self, place: usize) -> Option<Slot>
         ensures { λ r. ⌜ At-place (vec-items (now (self .entry) .slots)) place r ⌝ }
     {
-        if place == 0 {
-            return None;
-        }
-        self.slots.get(place - 1).copied()
+        at_place(&self.slots, place)
     }
 }

@@ -1,2 +1,3 @@
 pub mod Returned
 pub mod Orders
+pub mod Places

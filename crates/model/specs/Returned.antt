@@ -6,7 +6,7 @@ use Rattle.std.specs.Options.{mapped}
 use Rattle.std.specs.declared.option.Option.{Option}
 use Rattle.std.specs.declared.option.Option.the-variants.{Some, None}
 use Rattle.model.specs.declared.refusal.Refusal.{Refusal}
-use Rattle.model.specs.declared.refusal.Refusal.the-variants.{NotRecords, JobCount, FieldLimits, FieldNotZero, TableLength, OrderLength, OrderEntry, Budget, BrokenNode, LineUnfit, Finished, Memory}
+use Rattle.model.specs.declared.refusal.Refusal.the-variants.{NotRecords, JobCount, FieldLimits, FourthField, TableLength, OrderLength, OrderEntry, Budget, BrokenNode, LineUnfit, Finished, Memory}
 
 -- A number, and the values that come with it.
 pub record Answer : Type 0 where
@@ -18,7 +18,7 @@ abbrev pub returned : Refusal → Option Answer
 returned NotRecords = Some (record { number = 1; values = [] })
 returned JobCount = Some (record { number = 2; values = [] })
 returned (FieldLimits job field) = Some (record { number = 3; values = job ∷ field ∷ [] })
-returned (FieldNotZero job) = Some (record { number = 4; values = job ∷ [] })
+returned (FourthField job) = Some (record { number = 4; values = job ∷ [] })
 returned TableLength = Some (record { number = 5; values = [] })
 returned OrderLength = Some (record { number = 6; values = [] })
 returned (OrderEntry place) = Some (record { number = 7; values = place ∷ [] })

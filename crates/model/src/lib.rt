@@ -1,3 +1,4 @@
-// What every layer shares: the refusals, and what an order of jobs is.
+// What every layer shares: the refusals, places, and what an order of jobs is.
 pub mod order;
+pub mod place;
 pub mod refusal;

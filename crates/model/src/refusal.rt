@@ -15,7 +15,7 @@ pub enum Refusal {
     /// A field from 1 to 3 is out of its limits.
     FieldLimits { job: usize, field: usize },
     /// The fourth field is not zero.
-    FieldNotZero { job: usize },
+    FourthField { job: usize },
     /// The table's length is not 1 to 4,096, or not the one at opening.
     TableLength,
     /// The plan or the order has not one entry for each job.
@@ -43,7 +43,7 @@ impl Refusal {
             Refusal::NotRecords => Some(1),
             Refusal::JobCount => Some(2),
             Refusal::FieldLimits { .. } => Some(3),
-            Refusal::FieldNotZero { .. } => Some(4),
+            Refusal::FourthField { .. } => Some(4),
             Refusal::TableLength => Some(5),
             Refusal::OrderLength => Some(6),
             Refusal::OrderEntry { .. } => Some(7),

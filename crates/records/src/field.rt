@@ -31,7 +31,7 @@ fn field_refusal(job: usize, index: usize) -> Refusal
     ensures { λ r. ⌜ Field-refusal job index r ⌝ }
 {
     if index == 3 {
-        Refusal::FieldNotZero { job }
+        Refusal::FourthField { job }
     } else {
         Refusal::FieldLimits {
             job,

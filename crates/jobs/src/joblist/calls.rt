@@ -2,9 +2,11 @@
 ghost use mathlib.Core.Path.{_≡_};
 ghost use mathlib.Core.List.{[], map};
 ghost use Rattle.std.specs.Of.Vec.{vec-items, vec-len};
-ghost use Rattle.jobs.specs.Lists.{Added, At-place};
+ghost use Rattle.model.specs.Places.{At-place};
+ghost use Rattle.jobs.specs.Lists.{Added};
 ghost use Rattle.records.specs.Bytes.{record-of};
 use crate::joblist::JobList;
+use model::place::at_place;
 use model::refusal::Refusal;
 use model::refusal::RefusalFromRefused;
 use records::job::Job;
@@ -54,10 +56,7 @@ impl<J: Job> JobList<J> {
     pub fn job(&self, number: usize) -> Option<J>
         ensures { λ r. ⌜ At-place (vec-items (now (self .entry) .jobs)) number r ⌝ }
     {
-        if number == 0 {
-            return None;
-        }
-        self.jobs.get(number - 1).copied()
+        at_place(&self.jobs, number)
     }
 
     /// The record of the job with a number from 1; none where there is no such job.
