@@ -18,7 +18,8 @@ use Rattle.records.specs.Fields.{Four, Lawful, Fault}
 use Rattle.records.specs.Bytes.{fields-of, record-of}
 use Rattle.records.proofs.Words.{Bytes}
 use Rattle.jobs.specs.Files.{rows-in, file-of}
-use Rattle.jobs.specs.Files.{First-fault, faulty, no-memory, Whole, Unread, not-records, too-many, misread, Holds, Read, Reads-back}
+use Rattle.jobs.specs.Files.{First-fault, Whole, Holds, Read, Reads-back}
+use Rattle.jobs.proofs.Refusing.{held-unrefused}
 use Rattle.jobs.proofs.Rows.{row-pushed}
 use Rattle.jobs.proofs.RoundTrip.{file-rows, rows-file, length-file}
 
@@ -102,23 +103,19 @@ read-back spans row four lawful same js b few e ks ks′ r some = go r
     long : length b ≡ length js * 16
     long = ap length e ∙ length-file (map row js) shaped ∙ ap (λ (n : ℕ). n * 16) (length-map js row)
 
-    whole : Whole b
-    whole = record { some = omega (arith, long); whole = omega (arith, long) }
-
-    no-fault : (e : Refusal) → First-fault spans (rows-in b) e → ⊥
-    no-fault e f =
-        let ok : All (Lawful spans) (rows-in b) = subst (All (Lawful spans)) (sym rows) (all-rows row (Lawful spans) lawful js) in
-        f .fault .bad (all-getD (Lawful spans) (rows-in b) (f .at) [] (f .within) ok (f .fault .at) (f .fault .within))
-
-    refused : (e : Refusal) → Unread spans b e → returned e ≡ None
-    refused e (not-records n q) = absurd (n whole)
-    refused e (too-many w m q) = absurd (omega (arith, long))
-    refused e (misread w m (faulty f)) = absurd (no-fault e f)
-    refused e (misread w m (no-memory q)) = q
+    held : Holds spans (map row js) b
+    held =
+        record {
+          whole = record { some = omega (arith, long); whole = omega (arith, long) };
+          few = omega (arith, long);
+          lawful = all-rows row (Lawful spans) lawful js;
+          read = sym rows;
+          written = sym e;
+        }
 
     go : (r : Result (Unit {0}) Refusal) → Read spans row ks ks′ b r → results.Cases r (λ _. ks′ ≡ js) (λ e. returned e ≡ None)
     go (Ok u) h = same-jobs row same ks′ js (h .read ∙ rows)
-    go (Err e) h = refused e (h .1)
+    go (Err f) h = held-unrefused spans (map row js) b f held (h .1)
 
 -- the file of one job more; xs is the list of jobs as a loop reads it
 pub file-more : {J : Type 0} (row : J → List ℕ) (js xs : List J) (i : ℕ) (j : J) (b b′ r : List ℕ) → xs ≡ js → i < length xs → j ≡ getD xs i j

@@ -1,7 +1,7 @@
 // Filling a list and reading from it.
 ghost use mathlib.Core.Path.{_≡_};
 ghost use mathlib.Core.List.{[], map};
-ghost use Rattle.std.specs.Of.Vec.{vec-items, vec-len};
+ghost use Rattle.std.specs.Of.Vec.{vec-items, vec-len, vec-cap};
 ghost use Rattle.model.specs.Places.{At-place};
 ghost use Rattle.jobs.specs.Lists.{Added};
 ghost use Rattle.records.specs.Bytes.{record-of};
@@ -41,7 +41,7 @@ impl<J: Job> JobList<J> {
 
     /// Adds the job of a record's four fields at the end.
     pub fn add(&mut self, fields: &[u32; 4]) -> Result<(), Refusal>
-        ensures { λ r. ⌜ Added spans row (vec-items (now (self .entry) .jobs)) (vec-items (now (self .exit) .jobs)) (now (fields .entry)) r ⌝ }
+        ensures { λ r. ⌜ Added spans row (vec-cap (now (self .entry) .jobs)) (vec-items (now (self .entry) .jobs)) (vec-items (now (self .exit) .jobs)) (now (fields .entry)) r ⌝ }
     {
         let count = self.jobs.len();
         if count == MOST_JOBS {
