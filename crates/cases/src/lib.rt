@@ -1,3 +1,5 @@
+#![tactic(auto)]
+
 // Worked examples and limits, each run as a test.
 #[cfg(test)]
 mod lists;

@@ -1,9 +1,8 @@
 -- Reading rows one after the other, and reading again what was written.
-use Rattle.std.proofs.Common.{◌≡◌, ℕ, suc, ◌+◌, ◌*◌, ◌<◌, ◌≤◌, List, [], ◌∷◌, ◌++◌, map, length, get_or, take, None, Ok, Err, Result, sym, refl, ap, ◌∙◌, subst, arith}
-use Rattle.std.specs.Result as results
-use Rattle.std.specs.List.{AllByRecursion as All}
+use Rattle.std.proofs.Common.{◌≡◌, ℕ, suc, ◌+◌, ◌*◌, ◌<◌, ◌≤◌, List, [], ◌∷◌, ◌++◌, map, length, get_or, take, None, Ok, Err, Result, MatchResult, sym, refl, ap, ◌∙◌, subst, arith}
+use Rattle.std.specs.List.{All}
 use Rattle.std.proofs.lemmas.List.{map_more, take_all, get_or-map, get_or-take, length-map, length-take-le, flat_map_more}
-use Rattle.std.proofs.ByRecursion.{All-get_or}
+use Rattle.std.proofs.lemmas.List.Elements.{All-nil, All-cons, All-get_or}
 use Rattle.model.specs.declared.refusal.Refusal.{Refusal}
 use Rattle.model.specs.Returned.{returned}
 use Rattle.records.specs.declared.field.Span.{Span}
@@ -18,8 +17,8 @@ use Rattle.jobs.proofs.RoundTrip.{file_rows, rows_file, length_file}
 
 -- what holds of every job holds of each row
 pub all_rows : {J : Type 0} (row : J → List ℕ) (P : List ℕ → Type 0) → ((j : J) → P (row j)) → (js : List J) → All P (map row js)
-all_rows row P h [] = tt
-all_rows row P h (j ∷ js) = (h j, all_rows row P h js)
+all_rows row P h [] = All-nil P
+all_rows row P h (j ∷ js) = All-cons P (row j) (map row js) (h j) (all_rows row P h js)
 
 module _ {J : Type 0} (spans : List Span) (row : J → List ℕ) (records : List (List ℕ)) (js : List J) (i : ℕ)
     (inv : map row js ≡ map fields_of (take i records)) where
@@ -106,7 +105,7 @@ read_back spans row four lawful same js b few e ks ks' r some = go r
           written = sym e;
         }
 
-    go : (r : Result (Unit {0}) Refusal) → Read spans row ks ks' b r → results.MatchResult r (λ _. ks' ≡ js) (λ e. returned e ≡ None)
+    go : (r : Result (Unit {0}) Refusal) → Read spans row ks ks' b r → MatchResult r (λ _. ks' ≡ js) (λ e. returned e ≡ None)
     go (Ok u) h = same_jobs row same ks' js (h.read ∙ rows)
     go (Err f) h = held_unrefused spans (map row js) b f held h.1
 

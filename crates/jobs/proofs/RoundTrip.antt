@@ -1,8 +1,9 @@
 -- Files there and back.
-use Rattle.std.proofs.Common.{◌≡◌, ℕ, ◌+◌, ◌*◌, ◌/◌, ◌%◌, List, [], ◌∷◌, ◌++◌, map, length, take, drop, refl, ap, ◌∙◌, arith}
+use Rattle.std.proofs.Common.{◌≡◌, ℕ, ◌*◌, ◌/◌, ◌%◌, List, [], ◌∷◌, ◌++◌, map, length, take, drop, refl, ap, ◌∙◌, arith}
 use Rattle.std.specs.Simd.{first_chunks}
-use Rattle.std.specs.List.{AllByRecursion as All}
+use Rattle.std.specs.List.{All}
 use Rattle.std.proofs.lemmas.List.{take_all, take_at, drop_at, length-append}
+use Rattle.std.proofs.lemmas.List.Elements.{All-head, All-tail}
 use Rattle.records.specs.Bytes.{fields_of, record_of}
 use Rattle.records.specs.Fields.{Four}
 use Rattle.records.proofs.Words.{Bytes, fields_record, rejoined, joined_map, record_fields, length_record}
@@ -21,17 +22,18 @@ pub length_file : (rows : List (List ℕ)) → All Four rows → length (file_of
 length_file [] h = refl
 length_file (fs ∷ rows) h =
     let a = length-append (record_of fs) (file_of rows) in
-    let l = length_record fs h.0 in
-    let r = length_file rows h.1 in
+    let l = length_record fs (All-head Four fs rows h) in
+    let r = length_file rows (All-tail Four fs rows h) in
     omega arith
 
 chunked_file : (rows : List (List ℕ)) → All Four rows → map fields_of (first_chunks 16 (length rows) (file_of rows)) ≡ rows
 chunked_file [] h = refl
 chunked_file (fs ∷ rows) h =
-    let l = length_record fs h.0 in
-    let first : fields_of (take 16 (record_of fs ++ file_of rows)) ≡ fs = ap fields_of (take_at (record_of fs) (file_of rows) 16 l) ∙ fields_record fs h.0 in
+    let four = All-head Four fs rows h in
+    let l = length_record fs four in
+    let first : fields_of (take 16 (record_of fs ++ file_of rows)) ≡ fs = ap fields_of (take_at (record_of fs) (file_of rows) 16 l) ∙ fields_record fs four in
     let rest : map fields_of (first_chunks 16 (length rows) (drop 16 (record_of fs ++ file_of rows))) ≡ rows =
-    ap (λ (x : List ℕ). map fields_of (first_chunks 16 (length rows) x)) (drop_at (record_of fs) (file_of rows) 16 l) ∙ chunked_file rows h.1 in
+    ap (λ (x : List ℕ). map fields_of (first_chunks 16 (length rows) x)) (drop_at (record_of fs) (file_of rows) 16 l) ∙ chunked_file rows (All-tail Four fs rows h) in
     cc
 
 pub rows_file : (rows : List (List ℕ)) → All Four rows → rows_in (file_of rows) ≡ rows

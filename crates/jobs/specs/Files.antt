@@ -1,9 +1,8 @@
 -- What a file of records is, and what reading it answers and leaves.
-use Rattle.std.specs.Prelude.{◌≡◌, ℕ, ◌+◌, ◌*◌, ◌/◌, ◌%◌, ◌<◌, ◌≤◌, List, [], map, length, None, Ok, Err, vec_items, Result, Vec, slice_index_or}
-use Rattle.std.specs.Result as results
+use Rattle.std.specs.Prelude.{◌≡◌, ℕ, ◌+◌, ◌*◌, ◌/◌, ◌%◌, ◌<◌, ◌≤◌, List, [], map, length, All, None, Ok, Err, MatchResult, vec_items, Result, Vec, slice_index_or}
 use Rattle.std.specs.declared.alloc.Global.{Global}
 use Rattle.std.specs.Simd.{first_chunks}
-use Rattle.std.specs.List.{flat_map, AllByRecursion as All}
+use Rattle.std.specs.List.{flat_map}
 use Rattle.model.specs.declared.refusal.Refusal.{Refusal}
 use Rattle.model.specs.Returned.{Returns, returned, SameRefusal}
 use Rattle.records.specs.declared.field.Span.{Span}
@@ -67,4 +66,4 @@ JobsRead spans row records (Err e) = Misread spans (map fields_of records) e
 -- Whenever this file is read in the place of a list, the list then holds just these jobs; only want of memory refuses it.
 -- (A list without jobs has an empty file, which is refused.)
 abbrev pub ReadsBack : {J : Type 0} → List Span → (J → List ℕ) → List J → List ℕ → Type 0
-ReadsBack {J} spans row js b = (ks ks' : List J) (r : Result (Unit {0}) Refusal) → 1 ≤ length js → Read spans row ks ks' b r → results.MatchResult r (λ _. ks' ≡ js) (λ e. returned e ≡ None)
+ReadsBack {J} spans row js b = (ks ks' : List J) (r : Result (Unit {0}) Refusal) → 1 ≤ length js → Read spans row ks ks' b r → MatchResult r (λ _. ks' ≡ js) (λ e. returned e ≡ None)

@@ -1,3 +1,5 @@
+#![tactic(auto)]
+
 // From the bytes of a job file to the text of its listing.
 ghost use Rattle.std.specs.Prelude.{◌≡◌, ◌≤◌, IfOk, None, string_bytes, MatchResult};
 ghost use Rattle.std.specs.List.{range_with_len};

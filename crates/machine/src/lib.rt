@@ -1,3 +1,5 @@
+#![tactic(auto)]
+
 // One machine with heads and tails: the schedule of an order.
 pub mod line;
 pub mod one_machine;

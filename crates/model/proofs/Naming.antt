@@ -1,10 +1,10 @@
 -- Orders by counting, and the check of an order.
-use Rattle.std.proofs.Common.{◌≡◌, ℕ, zero, suc, ◌+◌, ◌-◌, ◌<◌, ◌≤◌, Bool, true, false, cond, not, List, [], ◌∷◌, ◌++◌, length, get_or, take, drop, Decides, sym, refl, ap, ◌∙◌, inl, inr, arith}
-use Rattle.std.specs.List.{range_with_len, IsAnyAnswer, AllByRecursion as All}
+use Rattle.std.proofs.Common.{◌≡◌, ◌==◌, ℕ, zero, suc, ◌+◌, ◌<◌, ◌≤◌, Bool, true, false, cond, not, List, [], ◌∷◌, ◌++◌, length, get_or, take, drop, Decides, sym, refl, ap, ◌∙◌, inl, inr, arith}
+use Rattle.std.specs.List.{range_with_len, IsAnyAnswer, All}
 use Rattle.std.proofs.lemmas.List.{take-append-drop, take_more, take_all, drop_more, get_or-take, length-take}
-use Rattle.std.proofs.ByRecursion.{All-get_or, All-from_get_or}
+use Rattle.std.proofs.lemmas.List.Elements.{All-get_or, All-from_get_or, All-head, All-tail}
 use Rattle.std.proofs.lemmas.List.FromFn.{length-range_with_len, get_or-range_with_len}
-use Rattle.std.proofs.lemmas.Bool.{cases_eq, ne_eqb, eq-eqb, true≢false}
+use Rattle.std.proofs.lemmas.Bool.{cases_eq, ne_eqb, eq-eqb, eqb-true, eqb-false, true≢false}
 use Rattle.model.specs.declared.refusal.Refusal.{Refusal}
 use Rattle.model.specs.Orders.{times, Listed, Order, Fresh, Misnamed, not_one_each, bad_entry}
 
@@ -41,7 +41,9 @@ tallied_more (suc n) k o l h =
 
 tallied_length : (n : ℕ) (o : List ℕ) → All (Listed n) o → tallied n o ≡ length o
 tallied_length n [] h = tallied_nothing n
-tallied_length n (k ∷ o) h = omega (arith, tallied_more n k o h.0.0 h.0.1, tallied_length n o h.1)
+tallied_length n (k ∷ o) h =
+    let first = All-head (Listed n) k o h in
+    omega (arith, tallied_more n k o first.0 first.1, tallied_length n o (All-tail (Listed n) k o h))
 
 tallied_once : (n : ℕ) (o : List ℕ) → ((j : ℕ) → 1 ≤ j → j ≤ n → times j o ≡ 1) → tallied n o ≡ n
 tallied_once zero o h = refl
@@ -120,14 +122,14 @@ times_some j o i h e =
 
 -- the entry at i is fresh exactly if it does not stand among the m = i entries before it
 pub fresh_by_search : (n : ℕ) (o : List ℕ) (i m : ℕ) (r : Bool) → m ≡ i → Listed n (get_or o i 0)
-    → IsAnyAnswer (λ y b. Decides b (y ≡ get_or o i 0)) (take m o) r → Decides (not r) (Fresh n o i)
+    → IsAnyAnswer (λ y b. (y == get_or o i 0) ≡ b) (take m o) r → Decides (not r) (Fresh n o i)
 fresh_by_search n o i m true q l s =
-    let e : get_or (take m o) s.0 0 ≡ get_or o i 0 = (s.2 0).0 refl in
+    let e : get_or (take m o) s.0 0 ≡ get_or o i 0 = eqb-true _ _ (s.2 0) in
     let some = times_some (get_or o i 0) (take m o) s.0 s.1 e in
     let same : times (get_or o i 0) (take m o) ≡ times (get_or o i 0) (take i o) = ap (λ (k : ℕ). times (get_or o i 0) (take k o)) q in
     ((λ z. absurd (true≢false (sym z))), λ f. absurd (omega (arith, f.new)))
 fresh_by_search n o i m false q l s =
-    let none : times (get_or o i 0) (take i o) ≡ 0 = ap (λ (k : ℕ). times (get_or o i 0) (take k o)) (sym q) ∙ times_absent (get_or o i 0) (take m o) (λ k l e. true≢false (sym ((s k 0 (omega arith) l).1 e))) in
+    let none : times (get_or o i 0) (take i o) ≡ 0 = ap (λ (k : ℕ). times (get_or o i 0) (take k o)) (sym q) ∙ times_absent (get_or o i 0) (take m o) (λ k l. eqb-false _ _ (s k 0 (omega arith) l)) in
     ((λ _. record { listed = l; new = none }), λ _. refl)
 
 pub refused_exactly : (n : ℕ) (o : List ℕ) (e : Refusal) → Misnamed n o e → Decides false (Order n o)

@@ -1,13 +1,12 @@
 -- What an order of n jobs is, and what the check of a list of entries answers.
-use Rattle.std.specs.Prelude.{◌≡◌, ℕ, ◌+◌, ◌<◌, ◌≤◌, cond, List, [], ◌∷◌, length, take, Ok, Err, Result, ◌==◌, ◌≢◌, slice_index}
-use Rattle.std.specs.List.{AllByRecursion as All}
+use Rattle.std.specs.Prelude.{◌≡◌, ◌≢◌, ℕ, ◌+◌, ◌<◌, ◌≤◌, ◌==◌, if◌then◌else◌, List, [], ◌∷◌, length, take, All, Ok, Err, Result, slice_index}
 use Rattle.model.specs.declared.refusal.Refusal.{Refusal}
 use Rattle.model.specs.Returned.{Returns}
 
 -- How often job j stands in a list.
 abbrev pub times : ℕ → List ℕ → ℕ
 times j [] = 0
-times j (k ∷ ks) = cond (j == k) 1 0 + times j ks
+times j (k ∷ ks) = (if j == k then 1 else 0) + times j ks
 
 -- One of the jobs from 1 to n.
 abbrev pub Listed : ℕ → ℕ → Type 0

@@ -1,5 +1,5 @@
 // Orders: every job from 1 to n exactly once.
-ghost use Rattle.std.specs.Prelude.{◌<◌, length, is_ok, Decides};
+ghost use Rattle.std.specs.Prelude.{◌<◌, ◌↔◌, length, IsTrue, IsOk};
 ghost use Rattle.model.specs.Orders.{Order, Fresh, Checked};
 
 use crate::refusal::Refusal;
@@ -7,7 +7,7 @@ use crate::refusal::Refusal;
 /// Whether the entry at an index is one of the jobs and stands nowhere before it.
 fn is_fresh(order: &[usize], index: usize, jobs: usize) -> bool
     requires { index < length order.now }
-    ensures { Decides result (Fresh jobs order.now index) }
+    ensures { IsTrue result ↔ Fresh jobs order.now index }
 {
     let job = order[index];
     1 <= job && job <= jobs && !order[0..index].contains(&job)
@@ -16,7 +16,7 @@ fn is_fresh(order: &[usize], index: usize, jobs: usize) -> bool
 /// Passes the orders of `jobs` jobs, and names what is wrong with any other slice.
 pub fn check_order(order: &[usize], jobs: usize) -> Result<(), Refusal>
     ensures answer { Checked jobs order.now result }
-    ensures exact { Decides (is_ok result) (Order jobs order.now) }
+    ensures exact { IsOk result ↔ Order jobs order.now }
 {
     if order.len() != jobs {
         return Err(Refusal::OrderLength);

@@ -1,3 +1,5 @@
+#![tactic(auto)]
+
 // Reads a job file from standard input, and prints its listing.
 use anyhow::anyhow;
 use listing::listing;

@@ -2,13 +2,13 @@
 use Rattle.std.proofs.Common.{◌≡◌, ℕ, zero, suc, ◌+◌, ◌*◌, ◌/◌, ◌%◌, ◌<◌, ◌≤◌, List, [], ◌∷◌, ◌++◌, map, length, take, drop, sym, refl, ap, ◌∙◌, arith, take-add}
 use native.Mathlib.Nat.{div-div-eq-div-mul}
 use Rattle.std.specs.Simd.{first_chunks}
-use Rattle.std.specs.List.{flat_map, AllByRecursion as All}
+use Rattle.std.specs.List.{flat_map, All}
 use Rattle.std.proofs.lemmas.List.{take_all, length-drop, length-take-le}
-use Rattle.std.proofs.ByRecursion.{All-take, All-drop}
+use Rattle.std.proofs.lemmas.List.Elements.{All-take, All-drop}
 use Rattle.std.proofs.lemmas.Nat.{div-mul-add, mod-mul-add}
 use Rattle.records.specs.Bytes.{number, word, fields_of, record_of}
 use Rattle.records.specs.Fields.{Four}
-use Rattle.records.specs.FieldsLemmas.{four}
+use Rattle.records.proofs.Fields.{four}
 
 -- bytes
 abbrev pub Bytes : List ℕ → Type 0
@@ -29,10 +29,10 @@ number_word n h =
 
 word_number : (w : List ℕ) → length w ≡ 4 → Bytes w → word (number w) ≡ w
 word_number (a ∷ b ∷ c ∷ d ∷ []) l h =
-    let ha = h.0 in
-    let hb = h.1.0 in
-    let hc = h.1.1.0 in
-    let hd = h.1.1.1.0 in
+    let ha : a < 256 = h 0 0 (omega arith) in
+    let hb : b < 256 = h 1 0 (omega arith) in
+    let hc : c < 256 = h 2 0 (omega arith) in
+    let hd : d < 256 = h 3 0 (omega arith) in
     let n = number (a ∷ b ∷ c ∷ d ∷ []) in
     let n1 : n ≡ (b + c * 256 + d * 65536) * 256 + a = omega arith in
     let n2 : n ≡ (c + d * 256) * 65536 + (a + b * 256) = omega arith in
@@ -54,10 +54,10 @@ word_number (a ∷ b ∷ c ∷ d ∷ e ∷ w) l h = absurd (omega arith)
 -- four fields written and read
 pub fields_record : (fs : List ℕ) → Four fs → fields_of (record_of fs) ≡ fs
 fields_record (a ∷ b ∷ c ∷ d ∷ []) h =
-    let p = number_word a h.small.0 in
-    let q = number_word b h.small.1.0 in
-    let r = number_word c h.small.1.1.0 in
-    let s = number_word d h.small.1.1.1.0 in
+    let p = number_word a (h.small 0 0 (omega arith)) in
+    let q = number_word b (h.small 1 0 (omega arith)) in
+    let r = number_word c (h.small 2 0 (omega arith)) in
+    let s = number_word d (h.small 3 0 (omega arith)) in
     cc
 fields_record [] h = absurd (omega (arith, h.long))
 fields_record (a ∷ []) h = absurd (omega (arith, h.long))

@@ -1,6 +1,5 @@
 -- The four fields of a record: their limits, and the first that breaks them.
-use Rattle.std.specs.Prelude.{◌≡◌, ℕ, ◌+◌, ◌<◌, ◌≤◌, List, [], ◌∷◌, length, Ok, Err, Result, slice_index, slice_index_or}
-use Rattle.std.specs.List.{AllByRecursion as All}
+use Rattle.std.specs.Prelude.{◌≡◌, ℕ, ◌+◌, ◌<◌, ◌≤◌, List, [], ◌∷◌, length, All, Ok, Err, Result, slice_index, slice_index_or}
 use Rattle.model.specs.declared.refusal.Refusal.{Refusal}
 use Rattle.model.specs.Returned.{Returns}
 use Rattle.records.specs.declared.field.Span.{Span}
@@ -17,7 +16,7 @@ no_span = record { least = 0; most = 0 }
 -- The field at an index, from 0, lies within its span.
 pub record Fit (spans : List Span) (fs : List ℕ) (i : ℕ) : Type 0 where
   pub low : (slice_index_or spans i no_span).least ≤ slice_index fs i
-  pub high : slice_index_or fs i 0 ≤ (slice_index_or spans i no_span).most
+  pub high : slice_index fs i ≤ (slice_index_or spans i no_span).most
 
 -- All four fields lie within their spans.
 abbrev pub Lawful : List Span → List ℕ → Type 0

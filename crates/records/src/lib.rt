@@ -1,3 +1,5 @@
+#![tactic(auto)]
+
 // Job records of sixteen bytes, and the two kinds of jobs that they hold.
 pub mod field;
 pub mod flow_job;

@@ -1,7 +1,7 @@
 // A job of one machine.
 ghost use Rattle.std.specs.Prelude.{◌≡◌, ℕ, ◌≤◌, List, [], ◌∷◌, slice_index};
 ghost use Rattle.records.specs.Kinds.{machine_spans};
-ghost use Rattle.std.proofs.Common.{ap, rules, arith};
+ghost use Rattle.std.proofs.Common.{ap, rules};
 ghost use Rattle.records.specs.FieldsLemmas.{low_path, high_path};
 
 use crate::field::{Span, TIME, WORK, ZERO, check_fields};
@@ -28,9 +28,9 @@ impl Job for MachineJob {
 
     ghost row = { λ j. j.head ∷ j.work ∷ j.tail ∷ 0 ∷ [] };
 
-    ghost shaped = { first_of (Prim.search rules, Prim.grind (arith, Self.row.coded.inj)) };
+    ghost shaped = { Prim.search rules };
 
-    ghost lawful = { first_of (Prim.search rules, Prim.grind (arith, Self.row.coded.inj)) };
+    ghost lawful = { Prim.search rules };
 
     // the limits are propositions, so jobs with the same numbers are the same
     ghost same = { λ i j e.

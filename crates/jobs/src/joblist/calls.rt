@@ -39,7 +39,7 @@ impl<J: Job> JobList<J> {
 
     /// Adds the job of a record's four fields at the end.
     pub fn add(&mut self, fields: &[u32; 4]) -> Result<(), Refusal>
-        ensures { Added spans row (vec_capacity self.old.jobs) self.old.jobs.items self.new.jobs.items fields.now result }
+        ensures { Added J.spans J.Job.row (vec_capacity self.old.jobs) self.old.jobs.items self.new.jobs.items fields.now result }
     {
         let count = self.jobs.len();
         if count == MOST_JOBS {
@@ -59,7 +59,7 @@ impl<J: Job> JobList<J> {
 
     /// The record of the job with a number from 1; none where there is no such job.
     pub fn record(&self, number: usize) -> Option<[u8; 16]>
-        ensures { AtPlace (map (λ j. record_of (row j)) self.now.jobs.items) number result }
+        ensures { AtPlace (map (λ j. record_of (J.Job.row j)) self.now.jobs.items) number result }
     {
         let job = self.job(number)?;
         Some(encode(&job.fields()))

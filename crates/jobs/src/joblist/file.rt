@@ -13,7 +13,7 @@ use std::alloc::Global;
 
 /// The jobs of records, or the first fault of the first faulty record.
 fn read_jobs<J: Job>(heap: Global, records: &[[u8; 16]]) -> Result<Vec<J>, Refusal>
-    ensures answer { JobsRead spans row records.now result }
+    ensures answer { JobsRead J.spans J.Job.row records.now result }
     ensures long { IfOk result (λ js. vec_len js ≡ length records.now) }
 {
     let mut jobs = Vec::new(heap);
@@ -27,8 +27,8 @@ fn read_jobs<J: Job>(heap: Global, records: &[[u8; 16]]) -> Result<Vec<J>, Refus
 impl<J: Job> JobList<J> {
     /// Reads a file in the place of this list; a file that is refused leaves the list as it was.
     pub fn read(&mut self, heap: Global, bytes: &[u8]) -> Result<(), Refusal>
-        ensures answer { Read spans row self.old.jobs.items self.new.jobs.items bytes.now result }
-        ensures only { OneRefusal spans bytes.now result }
+        ensures answer { Read J.spans J.Job.row self.old.jobs.items self.new.jobs.items bytes.now result }
+        ensures only { OneRefusal J.spans bytes.now result }
     {
         let (records, rest) = bytes.as_chunks::<16>();
         if records.is_empty() || !rest.is_empty() {
@@ -43,8 +43,8 @@ impl<J: Job> JobList<J> {
 
     /// The file of this list: its records one after the other.
     pub fn write(&self, heap: Global) -> Result<Vec<u8>, Refusal>
-        ensures answer { MatchResult result (λ b. b.items ≡ file_of (map row self.now.jobs.items)) (λ e. returned e ≡ None) }
-        ensures read_back { IfOk result (λ b. ReadsBack spans row self.now.jobs.items b.items) }
+        ensures answer { MatchResult result (λ b. b.items ≡ file_of (map J.Job.row self.now.jobs.items)) (λ e. returned e ≡ None) }
+        ensures read_back { IfOk result (λ b. ReadsBack J.spans J.Job.row self.now.jobs.items b.items) }
     {
         let mut bytes = Vec::new(heap);
         for job in self.jobs.iter() {

@@ -9,7 +9,7 @@ returns-in-Ok c =
     let h = shown c.args.bytes.now c.in-Ok.schedule c.text.result c.in-Ok.ensures c.text.ensures in
     record { answer = h; only = only_text c.args.bytes.now c.text.result h }
 
-pub returns-in-ok-line : goal.returns-in-ok-line
-returns-in-ok-line c =
-    let h = refused c.in-Err.refusal c.in-Some.number c.in-Err.ensures (sym c.in-Some.ensures) c.in-ok-line.ensures.ok in
-    record { answer = h; only = λ u. one_text c.args.bytes.now (string_bytes c.in-ok-line.line) u h }
+pub returns-in_ok-line-in-Some : goal.returns-in_ok-line-in-Some
+returns-in_ok-line-in-Some c =
+    let h = refused c.in-Err.refusal c.in-Some.number c.in-Err.ensures (sym c.in-Some.ensures) c.in_ok-line-in-Some.ensures.ok in
+    record { answer = h; only = λ u. one_text c.args.bytes.now (string_bytes c.in_ok-line-in-Some.line) u h }

@@ -7,7 +7,7 @@ use Rattle.listing.proofs.numbers.Goals as goal
 
 pub returns : goal.returns
 returns c =
-    let a = c.in-ok-order.ensures.ran in
+    let a = c.in_ok-order.ensures.ran in
     let s : Range ℕ = record { start = 1; end = c.args.count + 1 } in
     let n : c.args.count + 1 - 1 ≡ c.args.count = omega arith in
     let end = a.1.2 tt in

@@ -10,6 +10,6 @@ use Rattle.listing.proofs.plan.Goals as goal
 pub returns : goal.returns
 returns c =
     let js = c.read.new.self.jobs in
-    read_plan c.args.bytes.now (vec_items js) c.deref.result.now c.schedule.result c.in-ok-read.ensures.answer
-    (c.deref.ensures.value ∙ c.in-ok-order.ensures ∙ ap (range_with_len 1) (c.count.ensures ∙ js.ok.0))
+    read_plan c.args.bytes.now (vec_items js) c.deref.result.now c.schedule.result c.in_ok-read.ensures.answer
+    (c.deref.ensures.value ∙ c.in_ok-order.ensures ∙ ap (range_with_len 1) (c.count.ensures ∙ js.ok.0))
     (subst (λ (l : JobList MachineJob). Scheduled (rows_of (vec_items l.jobs)) c.deref.result.now c.schedule.result) c.new.ensures c.schedule.ensures)

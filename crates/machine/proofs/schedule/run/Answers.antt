@@ -7,29 +7,29 @@ use Rattle.machine.specs.Schedule.{no_memory}
 use Rattle.machine.proofs.Progress.{rows_order, next_listed, progress_more, progress_all}
 use Rattle.machine.proofs.schedule.run.Goals as goal
 
-pub row-at-row-requires : goal.row-at-row-requires
-row-at-row-requires c = next_listed c.args.order.now c.loop-job.job-index c.requires.order c.loop-job-test.true
+pub row_at-row-requires : goal.row_at-row-requires
+row_at-row-requires c = next_listed c.args.order.now c.loop-job.job-index c.requires.order c.loop-job-test.true
 
-pub overflow-add-free : goal.overflow-add-free
-overflow-add-free c =
-    let low = c.row-at-row.ensures.low in
+pub overflow_add-free : goal.overflow_add-free
+overflow_add-free c =
+    let low = c.row_at-row.ensures.low in
     omega (arith, low.head_low, low.work_low, c.loop-job.invariant.free_low, order_length (length c.args.jobs.now) c.args.order.now c.requires.order)
 
-pub overflow-add-free-in-loop-job : goal.overflow-add-free-in-loop-job
-overflow-add-free-in-loop-job c =
-    let low = c.row-at-row.ensures.low in
+pub overflow_add-free-in-loop-job : goal.overflow_add-free-in-loop-job
+overflow_add-free-in-loop-job c =
+    let low = c.row_at-row.ensures.low in
     omega (arith, low.head_low, low.work_low, low.tail_low, c.loop-job.invariant.free_low, order_length (length c.args.jobs.now) c.args.order.now c.requires.order)
 
-pub returns-in-err-push : goal.returns-in-err-push
-returns-in-err-push c =
-    let p = err_from_is_err_and c.from-residual.result c.from-residual.ensures.1 in
+pub returns-in_err-push : goal.returns-in_err-push
+returns-in_err-push c =
+    let p = err_from_is_err_and c.from_residual.result c.from_residual.ensures.1 in
     rw (p.1, p.2) (no_memory (rows_order c.args.jobs.now c.args.order.now c.requires.order) refl)
 
 pub loop-job-preserved : goal.loop-job-preserved
 loop-job-preserved c =
-    progress_more (rows_of c.args.jobs.now) c.args.order.now c.loop-job.job-index (vec_items c.loop-job.slots) c.loop-job.free c.loop-job.worth c.row-at-row.result _
-    c.loop-job-test.true c.row-at-row.ensures.value c.row-at-row.ensures.low c.loop-job.invariant refl c.max-start.ensures refl
-    (vec_items c.push.new.self) c.in-ok-push.ensures.items c.max-worth.result c.max-worth.ensures
+    progress_more (rows_of c.args.jobs.now) c.args.order.now c.loop-job.job-index (vec_items c.loop-job.slots) c.loop-job.free c.loop-job.worth c.row_at-row.result _
+    c.loop-job-test.true c.row_at-row.ensures.value c.row_at-row.ensures.low c.loop-job.invariant refl c.max-start.ensures refl
+    (vec_items c.push.new.self) c.in_ok-push.ensures.items c.max-worth.result c.max-worth.ensures
 
 pub returns : goal.returns
 returns c =

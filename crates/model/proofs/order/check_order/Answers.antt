@@ -9,9 +9,9 @@ returns-then-order-jobs c =
     let m = not_one_each (λ e. c.if-order-jobs.true e) refl in
     record { answer = m; exact = refused_exactly c.args.jobs c.args.order.now _ m }
 
-pub returns-then-not-is-fresh : goal.returns-then-not-is-fresh
-returns-then-not-is-fresh c =
-    let m = bad_entry c.loop-index.index c.if-order-jobs.false (record { within = omega arith; bad = not_from_Decides c.is-fresh.result c.is-fresh.ensures c.if-not-is-fresh.true; before = c.loop-index.invariant }) refl in
+pub returns-then-not-is_fresh : goal.returns-then-not-is_fresh
+returns-then-not-is_fresh c =
+    let m = bad_entry c.loop-index.index c.if-order-jobs.false (record { within = omega arith; bad = not_from_Decides c.is_fresh.result c.is_fresh.ensures c.if-not-is_fresh.true; before = c.loop-index.invariant }) refl in
     record { answer = m; exact = refused_exactly c.args.jobs c.args.order.now _ m }
 
 pub returns : goal.returns

@@ -6,9 +6,9 @@ use Rattle.jobs.proofs.joblist.JobList.write.Goals as goal
 pub loop-job-preserved : goal.loop-job-preserved
 loop-job-preserved g c =
     file_more g.J.Job.row (vec_items c.args.self.now.jobs) c.deref-job-items.result.now c.loop-job.job-index c.job-item.result
-    (vec_items c.loop-job.bytes) (vec_items c.extend-from-slice.new.self) c.encode.result
+    (vec_items c.loop-job.bytes) (vec_items c.extend_from_slice.new.self) c.encode.result
     c.deref-job-items.ensures.value c.loop-job-test.true c.job-item.is c.loop-job.invariant (c.encode.ensures ∙ ap record_of c.fields.ensures)
-    c.in-ok-extend-from-slice.ensures.items
+    c.in_ok-extend_from_slice.ensures.items
 
 pub returns : goal.returns
 returns g c =

@@ -9,7 +9,7 @@ pub returns : goal.returns
 returns c =
     let s = c.in-Some.slot in
     let at = c.in-Some.ensures in
-    let text = c.in-ok-text.ensures.ok in
+    let text = c.in_ok-text.ensures.ok in
     let a : s.job < 2 ^ 64 = omega arith in
     let b : s.start < 2 ^ 64 = omega arith in
     let d : s.end < 2 ^ 64 = omega arith in
