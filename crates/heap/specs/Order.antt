@@ -1,11 +1,9 @@
--- Heap order, over any total order o of the items.
-use Rattle.std.specs.Prelude.{◌≡◌, ℕ, ◌+◌, ◌/◌, ◌<◌, Bool, false, List, length, slice_index_or}
+-- Heap order, by a comparison R of the items.
+use Rattle.std.specs.Prelude.{◌≡◌, ℕ, ◌+◌, ◌/◌, ◌<◌, Bool, false, List, length, slice_index_or, All}
 use Rattle.std.specs.declared.cmp.Ordering.{Ordering}
-use Rattle.std.specs.Cmp.{IsTotalOrder}
 use Rattle.std.specs.Ordering.{is_gt}
-use Rattle.std.specs.List.{AllByRecursion as All}
 
-module _ {X : Type 0} {R : X → X → Ordering} (o : IsTotalOrder R) where
+module _ {X : Type 0} (R : X → X → Ordering) where
   -- x comes after y.
   abbrev pub after : X → X → Bool
   after x y = is_gt (R x y)

@@ -1,32 +1,15 @@
 -- Total orders by two keys: items compare by the first, and where these are equal by the second.
-use Rattle.std.proofs.Common.{sym}
 use Rattle.std.specs.declared.cmp.Ordering.{Ordering}
-use Rattle.std.specs.Cmp.{IsTotalOrder, alike_right, both, both-says, both-flip, both-trans, both_Alike}
-use Rattle.std.specs.Ordering.{Then}
+use Rattle.std.specs.Cmp.{IsTotalOrder, back_total, on_total, then_total}
+use Rattle.std.specs.Ordering.{flip_args, on, then_cmp}
 
 -- The order the other way round.
-abbrev pub turned : {K : Type 0} {P : K → K → Ordering → Type 0} → IsTotalOrder P → IsTotalOrder (λ (x y : K). P y x)
-turned o = record {
-  cmp = λ x y. o.cmp y x;
-  says = λ x y. o.says y x;
-  flip = λ x y. o.antisymm y x;
-  trans = λ x y z p q. o.trans z y x q p;
-  alike = λ x y z p. sym (alike_right o y x z p);
-}
+abbrev pub turned : {K : Type 0} {P : K → K → Ordering} → IsTotalOrder P → IsTotalOrder (flip_args P)
+turned o = back_total o
 
-module _ {X K L : Type 0} {P : K → K → Ordering} {Q : L → L → Ordering → Type 0} (o : IsTotalOrder P) (p : IsTotalOrder Q) (first : X → K) (second : X → L) where
-  -- The answer that a comparison of x and y gives.
-  abbrev pub Compares : X → X → Ordering → Type 0
-  Compares x y r = Then (P (first x) (first y)) (Q (second x) (second y)) r
+-- The answer that a comparison of two items gives.
+abbrev pub two_keys_cmp : {X K L : Type 0} → (K → K → Ordering) → (L → L → Ordering) → (X → K) → (X → L) → X → X → Ordering
+two_keys_cmp P Q first second = then_cmp (on first P) (on second Q)
 
-  abbrev pub keys : X → K × L
-  keys x = (first x, second x)
-
-  abbrev pub by_keys : IsTotalOrder Compares
-  by_keys = record {
-    cmp = λ x y. both o p (keys x) (keys y);
-    says = λ x y. both-says o p (keys x) (keys y);
-    flip = λ x y. both-flip o p (keys x) (keys y);
-    trans = λ x y z. both-trans o p (keys x) (keys y) (keys z);
-    alike = λ x y z. both_Alike o p (keys x) (keys y) (keys z);
-  }
+abbrev pub by_keys : {X K L : Type 0} {P : K → K → Ordering} {Q : L → L → Ordering} → IsTotalOrder P → IsTotalOrder Q → (first : X → K) (second : X → L) → IsTotalOrder (two_keys_cmp P Q first second)
+by_keys o p first second = then_total (on_total first o) (on_total second p)

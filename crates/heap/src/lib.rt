@@ -1,4 +1,7 @@
 // A binary heap over memory that its user lends.
+
+#![tactic(auto)]
+
 ghost use Rattle.std.specs.Prelude.{◌≡◌, min, length, take};
 ghost use Rattle.heap.specs.Items.{cells, items};
 ghost use Rattle.heap.specs.Calls.{Pushed, Popped, Fronts};
@@ -41,7 +44,7 @@ impl<T: Ord + Copy> Heap<'_, T> {
     /// Adds an item, unless the memory is full.
     pub fn push(&mut self, x: T) -> Result<(), Full>
         ensures lent { self.new.slots.ghost_name ≡ self.old.slots.ghost_name }
-        ensures pushed { Pushed (λ x' y' r'. r' ≡ T.Ord.cmp x' y') (cells self.old) (items self.old) x result (cells self.new) (items self.new) }
+        ensures pushed { Pushed T.cmp (cells self.old) (items self.old) x result (cells self.new) (items self.new) }
     {
         let at = self.len;
         if self.slots.len() <= at {
@@ -56,7 +59,7 @@ impl<T: Ord + Copy> Heap<'_, T> {
     /// Takes the item in front away; none where there is no item.
     pub fn pop(&mut self) -> Option<T>
         ensures lent { self.new.slots.ghost_name ≡ self.old.slots.ghost_name }
-        ensures popped { Popped (λ x' y' r'. r' ≡ T.Ord.cmp x' y') (cells self.old) (items self.old) result (cells self.new) (items self.new) }
+        ensures popped { Popped T.cmp (cells self.old) (items self.old) result (cells self.new) (items self.new) }
     {
         let n = self.len();
         if n == 0 {
@@ -73,7 +76,7 @@ impl<T: Ord + Copy> Heap<'_, T> {
 
     /// The item in front; none where there is no item.
     pub fn peek(&self) -> Option<T>
-        ensures { Fronts (λ x' y' r'. r' ≡ T.Ord.cmp x' y') (items self.now) result }
+        ensures { Fronts T.cmp (items self.now) result }
     {
         front(self.slots, self.len)
     }
@@ -81,7 +84,7 @@ impl<T: Ord + Copy> Heap<'_, T> {
 
 /// The item in front of the heap of the first `len` items of the memory; none where there is no item.
 pub fn front<T: Ord + Copy>(slots: &[T], len: usize) -> Option<T>
-    ensures { Fronts (λ x' y' r'. r' ≡ T.Ord.cmp x' y') (take len slots.now) result }
+    ensures { Fronts T.cmp (take len slots.now) result }
 {
     if len.min(slots.len()) == 0 {
         return None;

@@ -6,7 +6,7 @@ ghost use Rattle.heap.specs.Sifting.{Tells, Best, Mends, Rises};
 /// Whether the item at `a` comes after the one at `b`.
 fn is_after<T: Ord>(s: &[T], a: usize, b: usize) -> bool
     requires { (a < length s.now) × (b < length s.now) }
-    ensures { Tells (λ x' y' r'. r' ≡ T.Ord.cmp x' y') s.now a b result }
+    ensures { Tells T.cmp s.now a b result }
 {
     s[a].cmp(&s[b]).is_gt()
 }
@@ -15,7 +15,7 @@ fn is_after<T: Ord>(s: &[T], a: usize, b: usize) -> bool
 pub(crate) fn sift_up<T: Ord>(s: &mut [T], mut at: usize)
     requires { at < length s.old }
     ensures shuffled { IsPermutation s.old s.new }
-    ensures rises { Rises (λ x' y' r'. r' ≡ T.Ord.cmp x' y') s.old at s.new }
+    ensures rises { Rises T.cmp s.old at s.new }
 {
     while 0 < at && is_after(s, (at - 1) / 2, at) {
         s.swap((at - 1) / 2, at);
@@ -27,7 +27,7 @@ pub(crate) fn sift_up<T: Ord>(s: &mut [T], mut at: usize)
 fn first_child<T: Ord>(s: &[T], at: usize) -> usize
     requires { at * 2 + 1 < length s.now }
     ensures bound { (at * 2 + 1 ≤ result) × (result ≤ at * 2 + 2) × (result < length s.now) }
-    ensures best { Best (λ x' y' r'. r' ≡ T.Ord.cmp x' y') s.now at result }
+    ensures best { Best T.cmp s.now at result }
 {
     let left = at * 2 + 1;
     if left + 1 == s.len() {
@@ -42,7 +42,7 @@ fn first_child<T: Ord>(s: &[T], at: usize) -> usize
 /// Moves the first item down, past each child that comes before it.
 pub(crate) fn sift_down<T: Ord>(s: &mut [T])
     ensures shuffled { IsPermutation s.old s.new }
-    ensures mends { Mends (λ x' y' r'. r' ≡ T.Ord.cmp x' y') s.old s.new }
+    ensures mends { Mends T.cmp s.old s.new }
 {
     let mut at = 0;
     while at < s.len() / 2 {

@@ -12,4 +12,4 @@ returns g c =
     let n = c.args.len in
     let x = c.index-slots-0.result in
     let head : (d : g.row.T.Denot) → x ≡ get_or (take n e) 0 d = λ d. c.index-slots-0.is ∙ get_or_default e 0 x d (omega arith) ∙ sym (get_or-take n e 0 d (omega arith)) in
-    (omega (arith, length-take n e), head, λ o h. sifts.first o (take n e) x head h)
+    (omega (arith, length-take n e), head, λ h. sifts.first g.met.T.Ord.total (take n e) x head h)

@@ -1,4 +1,4 @@
-use Rattle.std.proofs.Common.{◌≡◌, ◌+◌, ◌-◌, ◌<◌, ◌≤◌, List, ◌∷◌, ◌++◌, length, get_or, take, sym, refl, ap, ◌∙◌, subst, arith, length-take, rules}
+use Rattle.std.proofs.Common.{◌≡◌, ◌-◌, ◌<◌, ◌≤◌, List, ◌∷◌, ◌++◌, length, get_or, take, sym, refl, ap, ◌∙◌, subst, arith, length-take, rules}
 use Rattle.std.specs.List.Sorted.{IsPermutation}
 use Rattle.std.proofs.lemmas.List.{get_or-take, get_or_default, length-take-le, nil_from_length, places}
 use Rattle.std.proofs.lemmas.List.Sorted.{length_permutation}
@@ -10,25 +10,25 @@ use Rattle.heap.proofs.Heap.pop.Goals as goal
 pub bounds-self-0 : goal.bounds-self-0
 bounds-self-0 g c = omega (arith, length-take c.args.self.now.len c.args.self.now.slots.now, c.len-n.ensures)
 
-pub slice-bounds-items-end : goal.slice-bounds-items-end
-slice-bounds-items-end g c = omega (arith, length-take c.args.self.now.len c.args.self.now.slots.now, c.len-n.ensures)
+pub slice_bounds-items-end : goal.slice_bounds-items-end
+slice_bounds-items-end g c = omega (arith, length-take c.args.self.now.len c.args.self.now.slots.now, c.len-n.ensures)
 
 pub returns-then-n-eq0 : goal.returns-then-n-eq0
 returns-then-n-eq0 g c = record { lent = refl; popped = (nil_from_length _ (omega arith), refl, refl) }
 
 pub returns : goal.returns
 returns g c =
-    let R = g.T.Ord.orders in
+    let R = g.T.Ord.cmp in
     let e = c.args.self.now.slots.now in
     let m = c.args.self.now.len in
     let n = c.len-n.result in
     let xs = take m e in
     let x = get_or e 0 c.index-self-0.result in
     let ys = c.swap.new.self in
-    let zs = c.sift-down.new.s in
+    let zs = c.sift_down.new.s in
     let w = c.swap.ensures in
-    let r = c.sift-down.ensures in
-    let p = w.by-index in
+    let r = c.sift_down.ensures in
+    let p = w.by_index in
     let count : n ≡ length xs = c.len-n.ensures in
     let some : 0 < n = omega arith in
     let within : n ≤ length e = omega (arith, length-take m e) in
@@ -46,10 +46,10 @@ returns g c =
     record {
       lent = refl;
       popped = (
-        (omega arith, head, λ o h. sifts.first o xs x head h),
+        (omega arith, head, λ h. sifts.first g.met.T.Ord.total xs x head h),
         record {
           bag = subst (λ l. IsPermutation xs (x ∷ l)) is held.0;
-          heaped = λ o h. subst (Heaped o) is (held.1 o h);
+          heaped = λ h. subst (Heaped R) is (held.1 h);
           room = search (rules, places);
           unused = λ k d a b. behind (zs ++ _) e n (n - 0) k d (search (rules, places)) (omega arith) (omega arith);
         },

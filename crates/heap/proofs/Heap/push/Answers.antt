@@ -13,12 +13,12 @@ returns-then-self-at g c =
 
 pub returns : goal.returns
 returns g c =
-    let R = g.T.Ord.orders in
+    let R = g.T.Ord.cmp in
     let e = c.args.self.now.slots.now in
     let n = c.args.self.now.len in
     let x = c.args.x in
-    let zs = c.sift-up.new.s in
-    let r = c.sift-up.ensures in
+    let zs = c.sift_up.new.s in
+    let r = c.sift_up.ensures in
     let within : n < length e = c.if-self-at.false in
     let plain : n + 1 - 0 ≡ n + 1 = omega arith in
     let long : length (take n e) ≡ n = length-take-le n e (omega arith) in
@@ -32,7 +32,7 @@ returns g c =
         omega arith,
         record {
           bag = subst (IsPermutation (x ∷ take n e)) is held.0;
-          heaped = λ o h. subst (Heaped o) is (held.1 o h);
+          heaped = λ h. subst (Heaped R) is (held.1 h);
           room = search (rules, places);
           unused = λ k d a b.
               let past : n + 1 ≤ k = omega (arith, ap length is, size) in
