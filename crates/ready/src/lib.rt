@@ -1,12 +1,15 @@
 // Jobs that are ready to start.
-ghost use Rattle.std.specs.Prelude.{◌≡◌, IsSomeAnd, refl};
+
+#![tactic(auto)]
+
+ghost use Rattle.std.specs.Prelude.{◌≡◌, refl};
+ghost use Rattle.std.specs.Cmp.{partial_order_from_agreeing_total};
+ghost use Rattle.std.specs.Cmp.Rules.{comparing};
+ghost use Rattle.std.specs.Ordering.{as_partial_cmp};
+ghost use Rattle.std.proofs.Common.{rules};
 ghost use Rattle.heap.specs.Items.{cells, items};
 ghost use Rattle.heap.specs.Calls.{Popped};
-ghost use Rattle.ready.specs.Order.{Compared, Starts};
-ghost use Rattle.std.specs.Ordering.{nat_cmp, on, flip_args, then_cmp, as_partial_cmp};
-ghost use Rattle.std.specs.Cmp.Rules.{comparing};
-ghost use Rattle.std.proofs.Common.{rules};
-ghost use Rattle.std.specs.Cmp.{partial_order_from_agreeing_total};
+ghost use Rattle.ready.specs.Order.{ready_job_cmp, by_tail, Starts};
 
 use heap::Heap;
 use std::cmp::Ordering;
@@ -19,9 +22,9 @@ pub struct ReadyJob {
 }
 
 impl PartialOrd for ReadyJob {
-    ghost partial_cmp = { as_partial_cmp (then_cmp (flip_args (on (λ v. v.tail) nat_cmp)) (on (λ v. v.job) nat_cmp)) };
+    ghost partial_cmp = { as_partial_cmp ready_job_cmp };
 
-    ghost laws = { partial_order_from_agreeing_total (then_cmp (flip_args (on (λ v. v.tail) nat_cmp)) (on (λ v. v.job) nat_cmp)) (Prim.search (comparing, rules)) (λ _ _. refl) (Prim.search (comparing, rules)) };
+    ghost laws = { partial_order_from_agreeing_total ready_job_cmp by_tail (λ _ _. refl) (Prim.search (comparing, rules)) };
 
     fn partial_cmp(&self, other: &ReadyJob) -> Option<Ordering> {
         Some(self.cmp(other))
@@ -30,11 +33,11 @@ impl PartialOrd for ReadyJob {
 
 /// The greatest tail first, and among equals the smallest number.
 impl Ord for ReadyJob {
-    ghost cmp = { then_cmp (flip_args (on (λ v. v.tail) nat_cmp)) (on (λ v. v.job) nat_cmp) };
+    ghost cmp = { ready_job_cmp };
 
-    ghost total = { Prim.search (comparing, rules) };
+    ghost total = { by_tail };
 
-    ghost matches_partial_cmp = { Prim.search (comparing, rules) };
+    ghost matches_partial_cmp = { λ _ _. refl };
 
     ghost matches_eq = { Prim.search (comparing, rules) };
 
@@ -46,7 +49,7 @@ impl Ord for ReadyJob {
 /// Takes the job that starts next away from those that are ready; none where no job is ready.
 pub fn start_next(ready: &mut Heap<'_, ReadyJob>) -> Option<ReadyJob>
     ensures lent { ready.new.slots.ghost_name ≡ ready.old.slots.ghost_name }
-    ensures popped { Popped Compared (cells ready.old) (items ready.old) result (cells ready.new) (items ready.new) }
+    ensures popped { Popped ready_job_cmp (cells ready.old) (items ready.old) result (cells ready.new) (items ready.new) }
     ensures starts { Starts (items ready.old) result }
 {
     ready.pop()
