@@ -1,8 +1,9 @@
 -- Bags of entries by counting.
 use Rattle.std.proofs.Common.{◌≡◌, ℕ, ◌+◌, ◌<◌, ◌≤◌, min, Bool, true, false, cond, ◌&&◌, eqb, ◌⊎◌, List, [], ◌∷◌, ◌++◌, reverse, length, get_or, take, Some, None, count_by, Option, unwrap_or, sym, refl, ap, ◌∙◌, subst, inl, inr, arith}
 use Rattle.std.specs.List.Sorted.{IsPermutation}
-use Rattle.std.specs.List.{AllByRecursion as All}
+use Rattle.std.specs.Prelude.{All}
 use Rattle.std.proofs.lemmas.List.{length_push, length-reverse, reverse-append, take_more}
+use Rattle.std.proofs.lemmas.List.Elements.{All-head, All-tail}
 use Rattle.std.proofs.lemmas.List.Sorted.{length_permutation, sum_by-IsPermutation}
 use Rattle.std.proofs.lemmas.List.Sums.{sum_by-cons}
 use Rattle.std.proofs.lemmas.Bool.{cases_lt, eqb-true, eq-eqb, true≢false}
@@ -65,7 +66,7 @@ put_either P x e b p rest h = by_entry P x e b (same x e) refl p rest h
 -- what holds of every entry of a list holds of what is in its bag
 pub holds_all : (P : Entry → Type 0) (es : List Entry) → All P es → (x : Entry) → Holds (bag_of es) x → P x
 holds_all P [] h x u = absurd (omega arith)
-holds_all P (e ∷ es) h x u = put_either P x e (bag_of es) h.0 (holds_all P es h.1 x) u
+holds_all P (e ∷ es) h x u = put_either P x e (bag_of es) (All-head P e es h) (holds_all P es (All-tail P e es h) x) u
 
 -- an entry behind the others is one entry more
 bag_push : (es : List Entry) (e : Entry) → bag_of (es ++ e ∷ []) ≡ put e (bag_of es)

@@ -1,22 +1,22 @@
 -- The entry in front of a heap leads its bag.
 use Rattle.std.proofs.Common.{◌≡◌, ℕ, suc, ◌+◌, ◌<◌, false, cond, List, sym, ap, ◌∙◌, subst, inl, inr, arith}
 use Rattle.std.specs.Cmp.{ranks}
-use Rattle.std.proofs.ByRecursion.{All-weaker}
+use Rattle.std.proofs.lemmas.List.Elements.{All-weaker}
 use Rattle.heap.specs.Order.{after, First}
 use Rattle.heap.proofs.Keyed.{not_after}
 use Rattle.frontier.specs.declared.entry.Entry.{Entry}
-use Rattle.frontier.specs.Order.{by_floor, Precedes}
+use Rattle.frontier.specs.Order.{entry_cmp, Precedes}
 use Rattle.frontier.specs.Bags.{Bag, Holds, same, put, bag_of}
 use Rattle.frontier.specs.Disciplines.{Determined}
 use Rattle.frontier.specs.Named.{Leads, Held, held_more, least_first}
 use Rattle.frontier.proofs.Counts.{holds_all, entries_same, put_holds, bags_same}
 use Rattle.std.specs.Ordering.{nat_cmp}
 
-pub precedes : (x y : Entry) → after by_floor x y ≡ false → Precedes x y
+pub precedes : (x y : Entry) → after entry_cmp x y ≡ false → Precedes x y
 precedes x y h = not_after (nat_cmp x.floor y.floor) (nat_cmp x.place y.place) (x.floor < y.floor) (x.floor ≡ y.floor) (y.floor < x.floor) x.place y.place (ranks x.floor y.floor) (ranks x.place y.place) h
 
-pub leads : (x : Entry) (es : List Entry) → First by_floor x es → Leads x (bag_of es)
-leads x es h = holds_all (Precedes x) es (All-weaker (λ y. after by_floor x y ≡ false) (Precedes x) (precedes x) es h)
+pub leads : (x : Entry) (es : List Entry) → First entry_cmp x es → Leads x (bag_of es)
+leads x es h = holds_all (Precedes x) es (All-weaker (λ y. after entry_cmp x y ≡ false) (Precedes x) (precedes x) es h)
 
 -- two entries of which each precedes the other are one
 pub one_leader : (x y : Entry) → Precedes x y → Precedes y x → x ≡ y

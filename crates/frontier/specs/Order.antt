@@ -2,8 +2,9 @@
 use Rattle.std.specs.Prelude.{◌≡◌, ℕ, ◌<◌, ◌≤◌, ◌⊎◌, List}
 use Rattle.std.specs.declared.cmp.Ordering.{Ordering}
 use Rattle.std.specs.Cmp.{IsTotalOrder, nat_cmp_total}
+use Rattle.std.specs.Ordering.{nat_cmp}
 use Rattle.heap.specs.Order.{Heaped}
-use Rattle.heap.specs.TwoKeys.{Compares, by_keys}
+use Rattle.heap.specs.TwoKeys.{two_keys_cmp, by_keys}
 use Rattle.frontier.specs.declared.entry.Entry.{Entry}
 
 abbrev pub floor_of : Entry → ℕ
@@ -13,16 +14,16 @@ abbrev pub place_of : Entry → ℕ
 place_of e = e.place
 
 -- What a comparison of two entries answers.
-abbrev pub Compared : Entry → Entry → Ordering → Type 0
-Compared x y r = Compares nat_cmp_total nat_cmp_total floor_of place_of x y r
+abbrev pub entry_cmp : Entry → Entry → Ordering
+entry_cmp = two_keys_cmp nat_cmp nat_cmp floor_of place_of
 
 -- That is a total order.
-abbrev pub by_floor : IsTotalOrder Compared
+abbrev pub by_floor : IsTotalOrder entry_cmp
 by_floor = by_keys nat_cmp_total nat_cmp_total floor_of place_of
 
 -- The entries lie in heap order.
 abbrev pub InOrder : List Entry → Type 0
-InOrder xs = Heaped by_floor xs
+InOrder xs = Heaped entry_cmp xs
 
 -- x has a lesser floor than y, or the same floor and no greater place.
 abbrev pub Precedes : Entry → Entry → Type 0

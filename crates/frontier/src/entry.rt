@@ -1,10 +1,10 @@
 // Who waits: a node's floor and its place.
-ghost use Rattle.std.specs.Prelude.{IsSomeAnd, refl};
-ghost use Rattle.frontier.specs.Order.{Compared};
-ghost use Rattle.std.specs.Ordering.{nat_cmp, on, then_cmp, as_partial_cmp};
-ghost use Rattle.std.specs.Cmp.Rules.{comparing};
-ghost use Rattle.std.proofs.Common.{rules};
+ghost use Rattle.std.specs.Prelude.{refl};
 ghost use Rattle.std.specs.Cmp.{partial_order_from_agreeing_total};
+ghost use Rattle.std.specs.Cmp.Rules.{comparing};
+ghost use Rattle.std.specs.Ordering.{as_partial_cmp};
+ghost use Rattle.std.proofs.Common.{rules};
+ghost use Rattle.frontier.specs.Order.{entry_cmp, by_floor};
 
 use std::cmp::Ordering;
 
@@ -16,9 +16,9 @@ pub struct Entry {
 }
 
 impl PartialOrd for Entry {
-    ghost partial_cmp = { as_partial_cmp (then_cmp (on (λ v. v.floor) nat_cmp) (on (λ v. v.place) nat_cmp)) };
+    ghost partial_cmp = { as_partial_cmp entry_cmp };
 
-    ghost laws = { partial_order_from_agreeing_total (then_cmp (on (λ v. v.floor) nat_cmp) (on (λ v. v.place) nat_cmp)) (Prim.search (comparing, rules)) (λ _ _. refl) (Prim.search (comparing, rules)) };
+    ghost laws = { partial_order_from_agreeing_total entry_cmp by_floor (λ _ _. refl) (Prim.search (comparing, rules)) };
 
     fn partial_cmp(&self, other: &Entry) -> Option<Ordering> {
         Some(self.cmp(other))
@@ -27,11 +27,11 @@ impl PartialOrd for Entry {
 
 /// The least floor first, and among equals the smallest place.
 impl Ord for Entry {
-    ghost cmp = { then_cmp (on (λ v. v.floor) nat_cmp) (on (λ v. v.place) nat_cmp) };
+    ghost cmp = { entry_cmp };
 
-    ghost total = { Prim.search (comparing, rules) };
+    ghost total = { by_floor };
 
-    ghost matches_partial_cmp = { Prim.search (comparing, rules) };
+    ghost matches_partial_cmp = { λ _ _. refl };
 
     ghost matches_eq = { Prim.search (comparing, rules) };
 

@@ -23,7 +23,7 @@ pub enum Answer {
 
 /// Makes one call.
 fn make_call<L: WaitingLine>(line: &mut L, call: Call) -> Answer
-    ensures { Does discipline call result (state line.old) (state line.new) }
+    ensures { Does L.discipline call result (L.state line.old) (L.state line.new) }
 {
     match call {
         Call::Add(waiting) => Answer::OfAdd(line.add(waiting)),
@@ -37,9 +37,9 @@ pub fn run_calls<L: WaitingLine>(
     line: &mut L,
     calls: &[Call],
 ) -> Result<Vec<Answer>, AllocError>
-    ensures ran { MatchResult result (λ answers. Ran discipline calls.now answers.items (state line.old) (state line.new)) (λ _. state line.new ≡ state line.old) }
-    ensures balanced { IfOk result (λ answers. Balanced (discipline.bag (state line.old)) calls.now answers.items (discipline.bag (state line.new))) }
-    ensures only { IfOk result (λ answers. OnlyRun discipline calls.now answers.items (state line.old) (state line.new)) }
+    ensures ran { MatchResult result (λ answers. Ran L.discipline calls.now answers.items (L.state line.old) (L.state line.new)) (λ _. L.state line.new ≡ L.state line.old) }
+    ensures balanced { IfOk result (λ answers. Balanced (L.discipline.bag (L.state line.old)) calls.now answers.items (L.discipline.bag (L.state line.new))) }
+    ensures only { IfOk result (λ answers. OnlyRun L.discipline calls.now answers.items (L.state line.old) (L.state line.new)) }
 {
     let mut answers = Vec::with_capacity(heap, calls.len())?;
     for call in calls {

@@ -2,7 +2,7 @@
 ghost use Rattle.std.specs.Prelude.{◌≡◌, ◌≤◌, length, take, IfOk};
 ghost use Rattle.heap.specs.Calls.{Pushed, Popped};
 ghost use Rattle.frontier.specs.Bags.{nothing};
-ghost use Rattle.frontier.specs.Order.{Compared};
+ghost use Rattle.frontier.specs.Order.{entry_cmp};
 ghost use Rattle.frontier.specs.Disciplines.{Determined};
 ghost use Rattle.frontier.specs.Named.{least_first};
 ghost use Rattle.frontier.specs.Holding.{held_by};
@@ -54,7 +54,7 @@ impl WaitingLine for LeastFloorLine {
 /// Pushes an entry onto the heap of the first `len` entries, and answers how many there are then.
 fn push_onto(slots: &mut [Entry], len: usize, waiting: Entry) -> (Result<(), Full>, usize)
     ensures fits { result.1 ≤ length slots.new }
-    ensures pushed { Pushed Compared slots.old (take len slots.old) waiting result.0 slots.new (take result.1 slots.new) }
+    ensures pushed { Pushed entry_cmp slots.old (take len slots.old) waiting result.0 slots.new (take result.1 slots.new) }
 {
     let mut heap = Heap::over(slots, len);
     let added = heap.push(waiting);
@@ -64,7 +64,7 @@ fn push_onto(slots: &mut [Entry], len: usize, waiting: Entry) -> (Result<(), Ful
 /// Pops the first entry off the heap of the first `len` entries, and answers how many there are then.
 fn pop_off(slots: &mut [Entry], len: usize) -> (Option<Entry>, usize)
     ensures fits { result.1 ≤ length slots.new }
-    ensures popped { Popped Compared slots.old (take len slots.old) result.0 slots.new (take result.1 slots.new) }
+    ensures popped { Popped entry_cmp slots.old (take len slots.old) result.0 slots.new (take result.1 slots.new) }
 {
     let mut heap = Heap::over(slots, len);
     let taken = heap.pop();

@@ -11,19 +11,19 @@ pub loop-call-init : goal.loop-call-init
 loop-call-init g c =
     let D = g.L.WaitingLine.discipline in
     let s = g.L.WaitingLine.state c.args.line.now in
-    let none : vec_items c.in-ok-answers.answers ≡ [] = search rules in
+    let none : vec_items c.in_ok-answers.answers ≡ [] = search rules in
     (search rules, search rules, subst (λ (rs : List Answer). Ran D [] rs s s) (sym none) refl)
 
-pub push-reserved-requires : goal.push-reserved-requires
-push-reserved-requires g c = omega arith
+pub push_reserved-requires : goal.push_reserved-requires
+push_reserved-requires g c = omega arith
 
 pub loop-call-preserved : goal.loop-call-preserved
 loop-call-preserved g c =
     let l = c.loop-call in
     let state = g.L.WaitingLine.state in
     let blank : Call = Add (record { floor = 0; place = 0 }) in
-    let ran = ran_next g.L.WaitingLine.discipline c.args.calls.now l.call-index blank (vec_items l.answers) (vec_items c.push-reserved.new.self) (state c.args.line.now) (state l.line) (state c.make-call.new.line) c.make-call.result (omega arith) l.invariant.2 c.make-call.ensures c.push-reserved.ensures.items in
-    (omega (arith, c.push-reserved.ensures.len), omega (arith, c.push-reserved.ensures.capacity), ran)
+    let ran = ran_next g.L.WaitingLine.discipline c.args.calls.now l.call-index blank (vec_items l.answers) (vec_items c.push_reserved.new.self) (state c.args.line.now) (state l.line) (state c.make_call.new.line) c.make_call.result (omega arith) l.invariant.2 c.make_call.ensures c.push_reserved.ensures.items in
+    (omega (arith, c.push_reserved.ensures.len), omega (arith, c.push_reserved.ensures.capacity), ran)
 
 pub returns : goal.returns
 returns g c =

@@ -7,7 +7,7 @@ use Rattle.frontier.proofs.newest_first.calls.least_floor.Goals as goal
 pub loop-entry-preserved : goal.loop-entry-preserved
 loop-entry-preserved c =
     let l = c.loop-entry in
-    least_more c.args.entries.now l.entry-index (record { floor = 0; place = 0 }) l.least c.unwrap-or.result c.min.result (omega arith) l.invariant c.unwrap-or.ensures c.min.ensures
+    least_more c.args.entries.now l.entry-index (record { floor = 0; place = 0 }) l.least c.unwrap_or.result c.min.result (omega arith) l.invariant c.unwrap_or.ensures c.min.ensures
 
 pub returns : goal.returns
 returns c =

@@ -11,5 +11,5 @@ pub returns : goal.returns
 returns c =
     let l = c.args.self.now in
     let es = vec_items l.entries in
-    let more : reverse (vec_items c.push-reserved.new.self) ≡ c.args.waiting ∷ reverse es = ap reverse c.push-reserved.ensures.items ∙ reverse-append es (c.args.waiting ∷ []) in
+    let more : reverse (vec_items c.push_reserved.new.self) ≡ c.args.waiting ∷ reverse es = ap reverse c.push_reserved.ensures.items ∙ reverse-append es (c.args.waiting ∷ []) in
     (omega (arith, length-reverse es, l.entries.ok.0, l.fits), λ i. record { capacity = l.capacity; entries = more i })

@@ -6,4 +6,4 @@ use Rattle.frontier.proofs.newest_first.calls.NewestFirstLineWaitingLine.least.G
 pub returns : goal.returns
 returns c =
     let es = vec_items c.args.self.now.entries in
-    subst (λ (b : Bag). Least b c.least-floor.result) (ap bag_of c.deref.ensures.value ∙ sym (bag_reverse es)) c.least-floor.ensures
+    subst (λ (b : Bag). Least b c.least_floor.result) (ap bag_of c.deref.ensures.value ∙ sym (bag_reverse es)) c.least_floor.ensures
