@@ -1,5 +1,5 @@
 -- What an order of n jobs is, and what the check of a list of entries answers.
-use Rattle.std.specs.Prelude.{◌≡◌, ◌≢◌, ℕ, ◌+◌, ◌<◌, ◌≤◌, ◌==◌, if◌then◌else◌, List, [], ◌∷◌, length, take, All, Ok, Err, Result, slice_index}
+use Rattle.std.specs.Prelude.{◌≡◌, ◌≢◌, ℕ, ◌+◌, ◌<◌, ◌≤◌, ◌==◌, if◌then◌else◌, List, [], ◌∷◌, length, take, All, Ok, Err, Result, Some, None, Option, slice_index}
 use Rattle.model.specs.declared.refusal.Refusal.{Refusal}
 use Rattle.model.specs.Returned.{Returns}
 
@@ -27,6 +27,11 @@ pub record FirstBad (n : ℕ) (o : List ℕ) (i : ℕ) : Type 0 where
   pub within : i < length o
   pub bad : Fresh n o i → ⊥
   pub before : (k : ℕ) → k < i → Fresh n o k
+
+-- What a search for the first bad entry finds: none where each entry is good.
+abbrev pub SoughtBad : ℕ → List ℕ → Option ℕ → Type 0
+SoughtBad n o (Some i) = FirstBad n o i
+SoughtBad n o None = (k : ℕ) → k < length o → Fresh n o k
 
 -- Why a list is no order: it has not one entry for each job, or else some entry is bad, of which the first is named by its place from 1.
 pub data Misnamed (n : ℕ) (o : List ℕ) (e : Refusal) : Type 0 where

@@ -1,6 +1,6 @@
 // Orders: every job from 1 to n exactly once.
 ghost use Rattle.std.specs.Prelude.{◌<◌, ◌↔◌, length, IsTrue, IsOk};
-ghost use Rattle.model.specs.Orders.{Order, Fresh, Checked};
+ghost use Rattle.model.specs.Orders.{Order, Fresh, SoughtBad, Checked};
 
 use crate::refusal::Refusal;
 
@@ -13,6 +13,13 @@ fn is_fresh(order: &[usize], index: usize, jobs: usize) -> bool
     1 <= job && job <= jobs && !order[0..index].contains(&job)
 }
 
+/// The index of the first entry that is 0, too great or repeated; none where each entry is good.
+fn first_bad(order: &[usize], jobs: usize) -> Option<usize>
+    ensures { SoughtBad jobs order.now result }
+{
+    (0..order.len()).find(|index| !is_fresh(order, *index, jobs))
+}
+
 /// Passes the orders of `jobs` jobs, and names what is wrong with any other slice.
 pub fn check_order(order: &[usize], jobs: usize) -> Result<(), Refusal>
     ensures answer { Checked jobs order.now result }
@@ -21,10 +28,8 @@ pub fn check_order(order: &[usize], jobs: usize) -> Result<(), Refusal>
     if order.len() != jobs {
         return Err(Refusal::OrderLength);
     }
-    for index in 0..jobs {
-        if !is_fresh(order, index, jobs) {
-            return Err(Refusal::OrderEntry { place: index + 1 });
-        }
+    match first_bad(order, jobs) {
+        Some(index) => Err(Refusal::OrderEntry { place: index + 1 }),
+        None => Ok(()),
     }
-    Ok(())
 }

@@ -5,8 +5,6 @@ ghost use Rattle.model.specs.Places.{AtPlace};
 pub fn at_place<T: Copy>(items: &[T], place: usize) -> Option<T>
     ensures { AtPlace items.now place result }
 {
-    if place == 0 {
-        return None;
-    }
-    items.get(place - 1).copied()
+    let index = place.checked_sub(1)?;
+    items.get(index).copied()
 }

@@ -35,6 +35,7 @@ pub enum Refusal {
 }
 
 impl Refusal {
+    // no `From`: not each case has a number
     /// The number under which a refusal is shown; want of memory has none.
     pub fn number(&self) -> Option<u32>
         ensures { result ≡ number_of self.now }
@@ -56,6 +57,7 @@ impl Refusal {
     }
 }
 
+// Two of them, since the library has two errors for want of memory.
 impl From<AllocError> for Refusal {
     ghost from_gives = { λ _ r. r ≡ Memory };
 

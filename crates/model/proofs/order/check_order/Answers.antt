@@ -1,18 +1,14 @@
-use Rattle.std.proofs.Common.{refl, arith}
-use Rattle.std.proofs.lemmas.Bool.Decides.{not_from_Decides}
-use Rattle.model.specs.Orders.{not_one_each, bad_entry}
-use Rattle.model.proofs.Naming.{fresh_order, refused_exactly}
+use Rattle.std.proofs.Common.{refl, arith, rules}
+use Rattle.model.specs.Orders.{bad_entry}
+use Rattle.model.proofs.Naming.{fresh_order, order_fresh, order_length}
 use Rattle.model.proofs.order.check_order.Goals as goal
 
-pub returns-then-order-jobs : goal.returns-then-order-jobs
-returns-then-order-jobs c =
-    let m = not_one_each (λ e. c.if-order-jobs.true e) refl in
-    record { answer = m; exact = refused_exactly c.args.jobs c.args.order.now _ m }
+pub returns-then-order-jobs-clause-exact : goal.returns-then-order-jobs-clause-exact
+returns-then-order-jobs-clause-exact c = grind (arith, order_length c.args.jobs c.args.order.now)
 
-pub returns-then-not-is_fresh : goal.returns-then-not-is_fresh
-returns-then-not-is_fresh c =
-    let m = bad_entry c.loop-index.index c.if-order-jobs.false (record { within = omega arith; bad = not_from_Decides c.is_fresh.result c.is_fresh.ensures c.if-not-is_fresh.true; before = c.loop-index.invariant }) refl in
-    record { answer = m; exact = refused_exactly c.args.jobs c.args.order.now _ m }
+pub returns-in-Some : goal.returns-in-Some
+returns-in-Some c =
+    record { answer = bad_entry c.in-Some.index c.if-order-jobs.false c.in-Some.ensures refl; exact = search (rules, order_fresh c.args.jobs c.args.order.now) }
 
-pub returns : goal.returns
-returns c = let o = fresh_order c.args.jobs c.args.order.now c.if-order-jobs.false (λ k h. c.loop-index.invariant k (omega arith)) in record { answer = o; exact = ((λ _. o), λ _. refl) }
+pub returns-in-None : goal.returns-in-None
+returns-in-None c = search (rules, fresh_order)
