@@ -1,5 +1,5 @@
 // The four fields of a record and their limits.
-ghost use Rattle.std.specs.Prelude.{◌<◌};
+ghost use Rattle.std.specs.Prelude.{◌<◌, ◌≤◌, ◌↔◌, IsTrue};
 ghost use Rattle.records.specs.Fields.{FieldRefusal, CheckedFields};
 
 use model::refusal::Refusal;
@@ -9,6 +9,15 @@ use model::refusal::Refusal;
 pub struct Span {
     pub least: u32,
     pub most: u32,
+}
+
+impl Span {
+    /// Whether a field lies within the span.
+    fn holds(&self, field: u32) -> bool
+        ensures { IsTrue result ↔ ((self.now.least ≤ field) × (field ≤ self.now.most)) }
+    {
+        (self.least..=self.most).contains(&field)
+    }
 }
 
 /// A time, which may be 0.
@@ -41,14 +50,18 @@ fn field_refusal(job: usize, index: usize) -> Refusal
     }
 }
 
+// Four fields and spans, by the format; the job's number comes beside them, since only a fault tells it.
+
 /// Passes fields that lie within their spans, and names the first that does not, from left to right.
 pub fn check_fields(fields: &[u32; 4], spans: &[Span; 4], job: usize) -> Result<(), Refusal>
     ensures { CheckedFields spans.now job fields.now result }
 {
-    for index in 0..4 {
-        if fields[index] < spans[index].least || spans[index].most < fields[index] {
-            return Err(field_refusal(job, index));
-        }
+    let broken = fields
+        .iter()
+        .zip(spans)
+        .position(|(field, span)| !span.holds(*field));
+    match broken {
+        Some(index) => Err(field_refusal(job, index)),
+        None => Ok(()),
     }
-    Ok(())
 }

@@ -1,8 +1,8 @@
 // A job of the flow shop.
 ghost use Rattle.std.specs.Prelude.{◌≡◌, ℕ, ◌≤◌, List, [], ◌∷◌, slice_index};
 ghost use Rattle.records.specs.Kinds.{flow_spans};
-ghost use Rattle.std.proofs.Common.{ap, rules};
-ghost use Rattle.records.specs.FieldsLemmas.{low_path, high_path};
+ghost use Rattle.std.proofs.Common.{rules};
+ghost use Rattle.records.specs.FieldsLemmas.{low_field, high_field};
 
 use crate::field::{Span, WORK, ZERO, check_fields};
 use crate::job::Job;
@@ -35,21 +35,17 @@ impl Job for FlowJob {
     ghost lawful = { Prim.search rules };
 
     // the limits are propositions, so jobs with the same numbers are the same
-    ghost same = { λ i j e.
-        let a : i.first ≡ j.first = ap (λ (fs : List ℕ). slice_index fs 0) e in
-        let b : i.second ≡ j.second = ap (λ (fs : List ℕ). slice_index fs 1) e in
-        let c : i.third ≡ j.third = ap (λ (fs : List ℕ). slice_index fs 2) e in
-        λ k. record {
-          first = a k;
-          second = b k;
-          third = c k;
-          first_least = low_path 1 a i.first_least j.first_least k;
-          first_most = high_path 1000000 a i.first_most j.first_most k;
-          second_least = low_path 1 b i.second_least j.second_least k;
-          second_most = high_path 1000000 b i.second_most j.second_most k;
-          third_least = low_path 1 c i.third_least j.third_least k;
-          third_most = high_path 1000000 c i.third_most j.third_most k;
-        } };
+    ghost same = { λ i j e k. record {
+      first = slice_index (e k) 0;
+      second = slice_index (e k) 1;
+      third = slice_index (e k) 2;
+      first_least = low_field e 0 i.first_least j.first_least k;
+      first_most = high_field e 0 i.first_most j.first_most k;
+      second_least = low_field e 1 i.second_least j.second_least k;
+      second_most = high_field e 1 i.second_most j.second_most k;
+      third_least = low_field e 2 i.third_least j.third_least k;
+      third_most = high_field e 2 i.third_most j.third_most k;
+    } };
 
     fn from_fields(fields: &[u32; 4], job: usize) -> Result<FlowJob, Refusal> {
         check_fields(fields, &SPANS, job)?;

@@ -1,8 +1,8 @@
 // A job of one machine.
 ghost use Rattle.std.specs.Prelude.{◌≡◌, ℕ, ◌≤◌, List, [], ◌∷◌, slice_index};
 ghost use Rattle.records.specs.Kinds.{machine_spans};
-ghost use Rattle.std.proofs.Common.{ap, rules};
-ghost use Rattle.records.specs.FieldsLemmas.{low_path, high_path};
+ghost use Rattle.std.proofs.Common.{rules};
+ghost use Rattle.records.specs.FieldsLemmas.{low_field, high_field};
 
 use crate::field::{Span, TIME, WORK, ZERO, check_fields};
 use crate::job::Job;
@@ -33,19 +33,15 @@ impl Job for MachineJob {
     ghost lawful = { Prim.search rules };
 
     // the limits are propositions, so jobs with the same numbers are the same
-    ghost same = { λ i j e.
-        let h : i.head ≡ j.head = ap (λ (fs : List ℕ). slice_index fs 0) e in
-        let w : i.work ≡ j.work = ap (λ (fs : List ℕ). slice_index fs 1) e in
-        let t : i.tail ≡ j.tail = ap (λ (fs : List ℕ). slice_index fs 2) e in
-        λ k. record {
-          head = h k;
-          work = w k;
-          tail = t k;
-          head_most = high_path 1000000 h i.head_most j.head_most k;
-          work_least = low_path 1 w i.work_least j.work_least k;
-          work_most = high_path 1000000 w i.work_most j.work_most k;
-          tail_most = high_path 1000000 t i.tail_most j.tail_most k;
-        } };
+    ghost same = { λ i j e k. record {
+      head = slice_index (e k) 0;
+      work = slice_index (e k) 1;
+      tail = slice_index (e k) 2;
+      head_most = high_field e 0 i.head_most j.head_most k;
+      work_least = low_field e 1 i.work_least j.work_least k;
+      work_most = high_field e 1 i.work_most j.work_most k;
+      tail_most = high_field e 2 i.tail_most j.tail_most k;
+    } };
 
     fn from_fields(fields: &[u32; 4], job: usize) -> Result<MachineJob, Refusal> {
         check_fields(fields, &SPANS, job)?;
