@@ -1,4 +1,3 @@
-pub mod Rows
 pub mod RoundTrip
 pub mod Reading
 pub mod Refusing

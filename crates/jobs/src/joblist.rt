@@ -5,6 +5,7 @@ pub mod calls;
 pub mod file;
 
 /// A list of at most 128 jobs of one kind, numbered from 1 by place.
+// Its fields and no model, since callers use that the jobs are few, and adding speaks of the room.
 #[derive(Drop)]
 pub struct JobList<J> {
     jobs: Vec<J>,

@@ -1,15 +1,13 @@
 // Reading a file in the place of a list, and writing a list as a file.
-ghost use Rattle.std.specs.Prelude.{◌≡◌, ◌/◌, map, length, IfOk, None, vec_len, MatchResult};
-ghost use Rattle.model.specs.Returned.{returned};
-ghost use Rattle.jobs.specs.Files.{JobsRead, Read, OneRefusal, ReadsBack};
-ghost use Rattle.jobs.specs.Files.{file_of};
+ghost use Rattle.std.specs.Prelude.{◌≡◌, map, length, IfOk, vec_len};
+ghost use Rattle.jobs.specs.Files.{JobsRead, Read, OneRefusal, ReadsBack, file_of};
 
 use crate::joblist::JobList;
 use crate::joblist::calls::MOST_JOBS;
 use model::refusal::Refusal;
 use records::job::Job;
 use records::record::{decode, encode};
-use std::alloc::Global;
+use std::alloc::{AllocError, Global};
 
 /// The jobs of records, or the first fault of the first faulty record.
 fn read_jobs<J: Job>(heap: Global, records: &[[u8; 16]]) -> Result<Vec<J>, Refusal>
@@ -41,9 +39,9 @@ impl<J: Job> JobList<J> {
         Ok(())
     }
 
-    /// The file of this list: its records one after the other.
-    pub fn write(&self, heap: Global) -> Result<Vec<u8>, Refusal>
-        ensures answer { MatchResult result (λ b. b.items ≡ file_of (map J.Job.row self.now.jobs.items)) (λ e. returned e ≡ None) }
+    /// The file of this list: its records one after the other. Only want of memory keeps it back.
+    pub fn write(&self, heap: Global) -> Result<Vec<u8>, AllocError>
+        ensures answer { IfOk result (λ b. b.items ≡ file_of (map J.Job.row self.now.jobs.items)) }
         ensures read_back { IfOk result (λ b. ReadsBack J.spans J.Job.row self.now.jobs.items b.items) }
     {
         let mut bytes = Vec::new(heap);
