@@ -7,8 +7,4 @@ use Rattle.machine.specs.Lines.{line_of}
 
 -- three numbers of 64 bits and two spaces
 pub line_short : (s : Slot) → s.job < 2 ^ 64 → s.start < 2 ^ 64 → s.end < 2 ^ 64 → length (line_of s) ≤ 64
-line_short s a b c =
-    let x = length-decimal-le 20 s.job (omega arith) (omega arith) a in
-    let y = length-decimal-le 20 s.start (omega arith) (omega arith) b in
-    let z = length-decimal-le 20 s.end (omega arith) (omega arith) c in
-    simp length-append (omega arith)
+line_short s a b c = grind (arith, length-append, length-decimal-le 20)

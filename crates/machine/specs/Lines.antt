@@ -1,8 +1,7 @@
 -- A listing line.
 use Rattle.std.specs.Prelude.{◌≡◌, ℕ, ◌-◌, ◌≤◌, List, ◌++◌, length, Some, None, Ok, Err, string_bytes, codes, decimal, Option, Result, String}
 use Rattle.std.specs.declared.alloc.Global.{Global}
-use Rattle.model.specs.declared.refusal.Refusal.{Refusal}
-use Rattle.model.specs.Returned.{returned}
+use Rattle.std.specs.declared.alloc.AllocError.{AllocError}
 use Rattle.machine.specs.declared.schedule.Slot.{Slot}
 use Rattle.machine.specs.Schedule.{slot}
 
@@ -17,8 +16,8 @@ pub record Line (slots : List Slot) (place : ℕ) (text : List ℕ) : Type 0 whe
   pub text_is : text ≡ line_of (slot slots (place - 1))
   pub short : length text ≤ 64
 
--- The line at a place, none where there is no such place; only want of memory is refused.
-abbrev pub Lined : List Slot → ℕ → Result (Option (String Global)) Refusal → Type 0
+-- The line at a place, none where there is no such place. Only want of memory keeps a line back.
+abbrev pub Lined : List Slot → ℕ → Result (Option (String Global)) AllocError → Type 0
 Lined slots place (Ok (Some t)) = Line slots place (string_bytes t)
 Lined slots place (Ok None) = (1 ≤ place) → (place ≤ length slots) → ⊥
-Lined slots place (Err e) = (1 ≤ place) × (place ≤ length slots) × (returned e ≡ None)
+Lined slots place (Err e) = (1 ≤ place) × (place ≤ length slots)

@@ -11,6 +11,7 @@ use records::machine_job::MachineJob;
 use std::alloc::Global;
 
 /// One machine with its jobs. The list moves in, and no call adds a job to it.
+// Its field and no model, which would be that list again.
 #[derive(Drop)]
 pub struct OneMachine {
     list: JobList<MachineJob>,
@@ -29,6 +30,6 @@ impl OneMachine {
         ensures { Scheduled (rows_of self.now.list.jobs.items) order.now result }
     {
         check_order(order, self.list.count())?;
-        run(heap, self.list.as_slice(), order)
+        run(heap, &self.list, order)
     }
 }

@@ -13,11 +13,11 @@ pub struct Row {
     pub tail: u64,
 }
 
-impl Row {
-    /// The row of a listed job.
-    pub fn of(job: &MachineJob) -> Row
-        ensures { result ≡ row_of job.now }
-    {
+/// The row of a listed job.
+impl From<MachineJob> for Row {
+    ghost from_gives = { λ j r. r ≡ row_of j };
+
+    fn from(job: MachineJob) -> Row {
         Row {
             head: u64::from(job.head),
             work: u64::from(job.work),
@@ -32,5 +32,5 @@ pub(crate) fn row_at(jobs: &[MachineJob], job: usize) -> Row
     ensures value { result ≡ row (rows_of jobs.now) job }
     ensures low { Low result }
 {
-    Row::of(&jobs[job - 1])
+    Row::from(jobs[job - 1])
 }

@@ -1,11 +1,12 @@
 // The schedule of an order: starts, ends and worth.
-ghost use Rattle.std.specs.Prelude.{◌≡◌, ◌≤◌, length};
+ghost use Rattle.std.specs.Prelude.{◌≡◌, length};
 ghost use Rattle.model.specs.Places.{AtPlace};
 ghost use Rattle.model.specs.Orders.{Order};
 ghost use Rattle.machine.specs.Rows.{rows_of};
 ghost use Rattle.machine.specs.Schedule.{Scheduled};
 
 use crate::row::row_at;
+use jobs::joblist::JobList;
 use model::place::at_place;
 use model::refusal::Refusal;
 use records::machine_job::MachineJob;
@@ -20,6 +21,7 @@ pub struct Slot {
 }
 
 /// The slots of an order's jobs, in the order of work, and its worth.
+// Its fields and no model, which would be a record of the same two.
 #[derive(Drop)]
 pub struct Schedule {
     slots: Vec<Slot>,
@@ -27,21 +29,25 @@ pub struct Schedule {
 }
 
 /// Runs the jobs in order, each as soon as it may start and the machine is free.
-pub(crate) fn run(heap: Global, jobs: &[MachineJob], order: &[usize]) -> Result<Schedule, Refusal>
-    requires order { Order (length jobs.now) order.now }
-    requires few { length jobs.now ≤ 128 }
-    ensures { Scheduled (rows_of jobs.now) order.now result }
+pub(crate) fn run(
+    heap: Global,
+    list: &JobList<MachineJob>,
+    order: &[usize],
+) -> Result<Schedule, Refusal>
+    requires { Order (length list.now.jobs.items) order.now }
+    ensures { Scheduled (rows_of list.now.jobs.items) order.now result }
 {
+    let jobs = list.as_slice();
     let mut slots = Vec::new(heap);
     let mut free = 0u64;
     let mut worth = 0u64;
-    for job in order {
-        let row = row_at(jobs, *job);
+    for &job in order {
+        let row = row_at(jobs, job);
         let start = free.max(row.head);
         free = start + row.work;
         worth = worth.max(free + row.tail);
         slots.push(Slot {
-            job: *job,
+            job,
             start,
             end: free,
         })?;

@@ -11,11 +11,7 @@ const MOST_BYTES: u64 = 2064;
 fn main(rt: HostRuntime) -> anyhow::Result<()> {
     let mut bytes = Vec::new(rt.alloc());
     let _ = rt.stdin().take(MOST_BYTES).read_to_end(&mut bytes)?;
-    match listing(rt.alloc(), &bytes) {
-        Ok(text) => {
-            print!(rt; "{text}")?;
-            Ok(())
-        }
-        Err(_) => Err(anyhow!("out of memory")),
-    }
+    let text = listing(rt.alloc(), &bytes).map_err(|_| anyhow!("out of memory"))?;
+    print!(rt; "{text}")?;
+    Ok(())
 }
