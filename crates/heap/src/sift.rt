@@ -1,4 +1,5 @@
 // Sifting: one item moves up or down until the items are in heap order again.
+// The loops go from parent to child in a tree whose places are reckoned, so no iterator stands for them.
 ghost use Rattle.std.specs.Prelude.{◌≡◌, ◌+◌, ◌*◌, ◌<◌, ◌≤◌, length};
 ghost use Rattle.std.specs.List.Sorted.{IsPermutation};
 ghost use Rattle.heap.specs.Sifting.{Tells, Best, Mends, Rises};
@@ -17,9 +18,13 @@ pub(crate) fn sift_up<T: Ord>(s: &mut [T], mut at: usize)
     ensures shuffled { IsPermutation s.old s.new }
     ensures rises { Rises T.cmp s.old at s.new }
 {
-    while 0 < at && is_after(s, (at - 1) / 2, at) {
-        s.swap((at - 1) / 2, at);
-        at = (at - 1) / 2;
+    while at > 0 {
+        let parent = (at - 1) / 2;
+        if !is_after(s, parent, at) {
+            return;
+        }
+        s.swap(parent, at);
+        at = parent;
     }
 }
 

@@ -2,12 +2,11 @@
 
 #![tactic(auto)]
 
-ghost use Rattle.std.specs.Prelude.{◌≡◌, refl};
-ghost use Rattle.std.specs.Cmp.{partial_order_from_agreeing_total};
+ghost use Rattle.std.specs.Prelude.{refl};
 ghost use Rattle.std.specs.Cmp.Rules.{comparing};
 ghost use Rattle.std.specs.Ordering.{as_partial_cmp};
 ghost use Rattle.std.proofs.Common.{rules};
-ghost use Rattle.heap.specs.Items.{cells, items};
+ghost use Rattle.heap.specs.Items.{cells, items, SameMemory};
 ghost use Rattle.heap.specs.Calls.{Popped};
 ghost use Rattle.ready.specs.Order.{ready_job_cmp, by_tail, Starts};
 
@@ -21,10 +20,11 @@ pub struct ReadyJob {
     pub job: usize,
 }
 
+// Written out: derived, a tail that is greatest first would have to be a `Reverse`, for everyone who makes or reads one.
 impl PartialOrd for ReadyJob {
     ghost partial_cmp = { as_partial_cmp ready_job_cmp };
 
-    ghost laws = { partial_order_from_agreeing_total ready_job_cmp by_tail (λ _ _. refl) (Prim.search (comparing, rules)) };
+    ghost laws = { Prim.search (comparing, rules) };
 
     fn partial_cmp(&self, other: &ReadyJob) -> Option<Ordering> {
         Some(self.cmp(other))
@@ -47,8 +47,9 @@ impl Ord for ReadyJob {
 }
 
 /// Takes the job that starts next away from those that are ready; none where no job is ready.
+#[tactic(auto, using(crate::proofs::Leading::starts))]
 pub fn start_next(ready: &mut Heap<'_, ReadyJob>) -> Option<ReadyJob>
-    ensures lent { ready.new.slots.ghost_name ≡ ready.old.slots.ghost_name }
+    ensures lent { SameMemory ready.old ready.new }
     ensures popped { Popped ready_job_cmp (cells ready.old) (items ready.old) result (cells ready.new) (items ready.new) }
     ensures starts { Starts (items ready.old) result }
 {

@@ -1,12 +1,12 @@
-use Rattle.std.proofs.Common.{◌+◌, ◌*◌, arith}
-use Rattle.heap.proofs.Sifts as sifts
+use Rattle.std.proofs.Common.{arith}
+use Rattle.heap.specs.Sifting.{Best}
 use Rattle.heap.proofs.sift.first_child.Goals as goal
 
-pub returns-then-left-s : goal.returns-then-left-s
-returns-then-left-s g c = record { bound = omega arith; best = sifts.only_child g.met.T.Ord.total c.args.s.now c.args.at (c.args.at * 2 + 1) (omega arith) (omega arith) }
+pub returns-then-left-s-clause-best : goal.returns-then-left-s-clause-best
+returns-then-left-s-clause-best g c = unfold Best in grind (arith, g.met.T.Ord.total.antisymm)
 
-pub returns-then-is_after : goal.returns-then-is_after
-returns-then-is_after g c = record { bound = omega arith; best = sifts.right_child g.met.T.Ord.total c.args.s.now c.args.at (c.args.at * 2 + 1) (omega arith) c.if-is_after.ensures }
+pub returns-then-is_after-clause-best : goal.returns-then-is_after-clause-best
+returns-then-is_after-clause-best g c = unfold Best in grind (arith, g.met.T.Ord.total.antisymm, c.if-is_after.ensures)
 
-pub returns : goal.returns
-returns g c = record { bound = omega arith; best = sifts.left_child g.met.T.Ord.total c.args.s.now c.args.at (c.args.at * 2 + 1) (omega arith) c.if-is_after.ensures }
+pub returns-clause-best : goal.returns-clause-best
+returns-clause-best g c = unfold Best in grind (arith, g.met.T.Ord.total.antisymm, c.if-is_after.ensures)

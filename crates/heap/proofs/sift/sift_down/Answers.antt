@@ -1,24 +1,17 @@
-use Rattle.std.proofs.lemmas.List.Sorted.{IsPermutation-refl, IsPermutation-trans}
-use Rattle.heap.proofs.Sifts as sifts
+use Rattle.std.proofs.Common.{arith}
+use Rattle.std.proofs.lemmas.Cmp.{upto}
+use Rattle.std.proofs.lemmas.List.Sorted.{IsPermutation-trans}
+use Rattle.heap.specs.Sifting.{Best, Mends}
 use Rattle.heap.proofs.sift.sift_down.Goals as goal
 
-pub loop-at-init : goal.loop-at-init
-loop-at-init g c = (IsPermutation-refl _, sifts.sink_begins g.T.Ord.cmp c.args.s.now)
-
-pub returns-then-not-is_after : goal.returns-then-not-is_after
-returns-then-not-is_after g c =
-    let l = c.loop-at in
-    record { shuffled = l.invariant.0; mends = sifts.sink_rests g.met.T.Ord.total c.args.s.now l.s l.at c.first_child-child.result c.first_child-child.ensures.best c.if-not-is_after.ensures l.invariant.1 }
-
 pub loop-at-preserved : goal.loop-at-preserved
-loop-at-preserved g c =
-    let l = c.loop-at in
-    let w = c.swap.ensures in
-    let p = w.by_index in
-    let b = c.first_child-child.ensures in
-    (IsPermutation-trans _ _ _ l.invariant.0 w.permutation, sifts.sink_steps g.met.T.Ord.total c.args.s.now l.s c.swap.new.self l.at c.first_child-child.result b.bound.0 b.bound.1 b.bound.2 w.len (p.0, p.1, p.2) b.best c.if-not-is_after.ensures l.invariant.1)
+loop-at-preserved g c = record {
+  shuffled = search IsPermutation-trans;
+  sunk = λ h. unfold Best in grind (arith, g.met.T.Ord.total.antisymm, c.loop-at.invariant.sunk h, c.swap.ensures.by_index, c.if-not-is_after.ensures, c.first_child-child.ensures.best);
+}
 
-pub returns : goal.returns
-returns g c =
-    let l = c.loop-at in
-    record { shuffled = l.invariant.0; mends = sifts.sink_ends g.T.Ord.cmp c.args.s.now l.s l.at c.loop-at-test.false l.invariant.1 }
+pub returns-then-not-is_after-clause-mends : goal.returns-then-not-is_after-clause-mends
+returns-then-not-is_after-clause-mends g c = unfold Mends Best in λ h. grind (arith, upto g.met.T.Ord.total, c.loop-at.invariant.sunk h, c.if-not-is_after.ensures, c.first_child-child.ensures.best)
+
+pub returns-clause-mends : goal.returns-clause-mends
+returns-clause-mends g c = unfold Mends in λ h. grind (arith, c.loop-at.invariant.sunk h)

@@ -1,30 +1,23 @@
-use Rattle.std.proofs.Common.{arith}
-use Rattle.std.proofs.lemmas.List.Sorted.{IsPermutation-refl, IsPermutation-trans}
-use Rattle.heap.proofs.Sifts as sifts
+use Rattle.std.proofs.Common.{◌-◌, ◌/◌, arith}
+use Rattle.std.proofs.lemmas.Cmp.{upto}
+use Rattle.std.proofs.lemmas.List.Sorted.{IsPermutation-trans}
+use Rattle.heap.specs.Sifting.{Rises}
 use Rattle.heap.proofs.sift.sift_up.Goals as goal
-
-pub loop-at-init : goal.loop-at-init
-loop-at-init g c = (omega arith, IsPermutation-refl _, sifts.rise_begins g.T.Ord.cmp c.args.s.now c.args.at)
-
-pub is_after-requires : goal.is_after-requires
-is_after-requires g c = (omega arith, omega arith)
-
-pub swap-requires : goal.swap-requires
-swap-requires g c = record { a_in_bounds = omega arith; b_in_bounds = omega arith }
 
 pub loop-at-preserved : goal.loop-at-preserved
 loop-at-preserved g c =
-    let l = c.loop-at in
-    let w = c.swap.ensures in
-    let p = w.by_index in
-    (omega arith, IsPermutation-trans _ _ _ l.invariant.1 w.permutation, sifts.rise_steps g.met.T.Ord.total c.args.s.now l.s c.swap.new.self c.args.at l.at (omega arith) (omega arith) w.len (p.0, p.1, p.2) c.if-is_after.ensures l.invariant.2)
+    let o = g.met.T.Ord.total in
+    let w = c.swap.ensures.by_index in
+    let t = c.if-not-is_after.ensures in record {
+      within = omega arith;
+      shuffled = search IsPermutation-trans;
+      risen = λ a b.
+          let i = c.loop-at.invariant.risen a b in
+          ((grind (arith, w, t), λ p k d. grind (arith, w, upto o, i.0.0 p ((c.loop-at.at - 1) / 2) d)), grind (arith, o.antisymm, upto o, w, t));
+    }
 
-pub returns-else-is_after : goal.returns-else-is_after
-returns-else-is_after g c =
-    let l = c.loop-at in
-    record { shuffled = l.invariant.1; rises = sifts.rise_rests g.T.Ord.cmp c.args.s.now l.s c.args.at l.at c.if-is_after.ensures l.invariant.2 }
+pub returns-then-not-is_after-clause-rises : goal.returns-then-not-is_after-clause-rises
+returns-then-not-is_after-clause-rises g c = unfold Rises in λ a b. grind (arith, c.loop-at.invariant.risen a b, c.if-not-is_after.ensures)
 
-pub returns-after-loop-at : goal.returns-after-loop-at
-returns-after-loop-at g c =
-    let l = c.loop-at in
-    record { shuffled = l.invariant.1; rises = sifts.rise_tops g.T.Ord.cmp c.args.s.now l.s c.args.at l.at (omega arith) l.invariant.2 }
+pub returns-clause-rises : goal.returns-clause-rises
+returns-clause-rises g c = unfold Rises in λ a b. grind (arith, c.loop-at.invariant.risen a b)
