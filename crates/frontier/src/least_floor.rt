@@ -1,16 +1,14 @@
 // The least-floor line: a heap over memory of its own.
-ghost use Rattle.std.specs.Prelude.{◌≤◌, take, vec_len};
 ghost use Rattle.frontier.specs.Order.{InOrder};
 
-use crate::entry::Entry;
+use crate::room::Room;
 
 mod calls;
 
 /// Gives the least floor first, and among equals the smallest place.
+// No model: what a line means to its users is its `state`.
 #[derive(Drop)]
 pub struct LeastFloorLine {
-    slots: Vec<Entry>,
-    len: usize,
-    ghost fits: { len ≤ vec_len slots },
-    ghost heaped: { InOrder (take len slots.items) },
+    room: Room,
+    ghost heaped: { InOrder room.entries.items },
 }

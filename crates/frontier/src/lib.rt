@@ -6,4 +6,5 @@ pub mod entry;
 pub mod least_floor;
 pub mod line;
 pub mod newest_first;
+mod room;
 pub mod run;

@@ -7,6 +7,8 @@ use crate::line::WaitingLine;
 use heap::Full;
 use std::alloc::{AllocError, Global};
 
+// Calls and answers as values, which a law over a whole list of them can speak of; named, where an `Option` would not say which call it was.
+
 /// A call that changes a waiting line.
 #[derive(Clone, Copy)]
 pub enum Call {
@@ -21,7 +23,7 @@ pub enum Answer {
     OfTake(Option<Entry>),
 }
 
-/// Makes one call.
+/// Makes one call. A `match`, since the calls are values.
 fn make_call<L: WaitingLine>(line: &mut L, call: Call) -> Answer
     ensures { Does L.discipline call result (L.state line.old) (L.state line.new) }
 {

@@ -35,32 +35,31 @@ fn answers_are<L: WaitingLine>(
     Ok(())
 }
 
+/// The same of both lines, where they answer alike.
+fn both_answer(
+    rt: &(impl Abort + AllocGlobal),
+    capacity: usize,
+    calls: &[Call],
+    answers: &[Answer],
+    least: Option<u64>,
+) -> Result<(), Fail> {
+    let mut line = LeastFloorLine::new(rt.alloc(), capacity)?;
+    answers_are(rt, &mut line, calls, answers, least)?;
+    let mut line = NewestFirstLine::new(rt.alloc(), capacity)?;
+    answers_are(rt, &mut line, calls, answers, least)
+}
+
 /// A line without room is empty and full at once.
 #[test]
 fn no_room(rt: HostRuntime) -> Result<(), Fail> {
-    let heap = rt.alloc();
     let calls = [Call::Take, add(1, 1), Call::Take, add(0, 0)];
     let answers = [NONE, REFUSED, NONE, REFUSED];
-    answers_are(
-        &rt,
-        &mut LeastFloorLine::new(heap, 0)?,
-        &calls,
-        &answers,
-        None,
-    )?;
-    answers_are(
-        &rt,
-        &mut NewestFirstLine::new(heap, 0)?,
-        &calls,
-        &answers,
-        None,
-    )
+    both_answer(&rt, 0, &calls, &answers, None)
 }
 
 /// After a refusal and a taking there is room again.
 #[test]
 fn room_for_one(rt: HostRuntime) -> Result<(), Fail> {
-    let heap = rt.alloc();
     let calls = [
         add(7, 2),
         add(3, 1),
@@ -70,20 +69,7 @@ fn room_for_one(rt: HostRuntime) -> Result<(), Fail> {
         add(3, 1),
     ];
     let answers = [ADDED, REFUSED, took(7, 2), NONE, ADDED, REFUSED];
-    answers_are(
-        &rt,
-        &mut LeastFloorLine::new(heap, 1)?,
-        &calls,
-        &answers,
-        Some(3),
-    )?;
-    answers_are(
-        &rt,
-        &mut NewestFirstLine::new(heap, 1)?,
-        &calls,
-        &answers,
-        Some(3),
-    )
+    both_answer(&rt, 1, &calls, &answers, Some(3))
 }
 
 #[test]

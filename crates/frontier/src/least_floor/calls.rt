@@ -1,8 +1,6 @@
 // The calls of the least-floor line.
-ghost use Rattle.std.specs.Prelude.{◌≡◌, ◌≤◌, length, take, IfOk};
-ghost use Rattle.heap.specs.Calls.{Pushed, Popped};
+ghost use Rattle.std.specs.Prelude.{◌≡◌, IfOk};
 ghost use Rattle.frontier.specs.Bags.{nothing};
-ghost use Rattle.frontier.specs.Order.{entry_cmp};
 ghost use Rattle.frontier.specs.Disciplines.{Determined};
 ghost use Rattle.frontier.specs.Named.{least_first};
 ghost use Rattle.frontier.specs.Holding.{held_by};
@@ -10,63 +8,51 @@ ghost use Rattle.frontier.specs.Holding.{held_by};
 use crate::entry::Entry;
 use crate::least_floor::LeastFloorLine;
 use crate::line::WaitingLine;
+use crate::room::Room;
 use heap::{Full, Heap};
 use std::alloc::{AllocError, Global};
 
 impl LeastFloorLine {
     /// An empty line with memory for `capacity` entries.
+    #[tactic(auto, using(crate::proofs::Leading::least_determined))]
     pub fn new(heap: Global, capacity: usize) -> Result<LeastFloorLine, AllocError>
         ensures empty { IfOk result (λ l. held_by l ≡ record { capacity = capacity; bag = nothing }) }
         ensures determined { Determined least_first }
     {
-        let slots = vec![in heap; Entry { floor: 0, place: 0 }; capacity]?;
-        Ok(LeastFloorLine { slots, len: 0 })
+        let room = Room::new(heap, capacity)?;
+        Ok(LeastFloorLine { room })
     }
 }
 
+// After the last use of a heap each slice is read once more, by which the check knows what the heap left in it.
 impl WaitingLine for LeastFloorLine {
     ghost discipline = { least_first };
 
     ghost state = { λ l. held_by l };
 
     fn capacity(&self) -> usize {
-        self.slots.len()
+        self.room.capacity
     }
 
     fn add(&mut self, waiting: Entry) -> Result<(), Full> {
-        let (answer, len) = push_onto(self.slots.as_mut_slice(), self.len, waiting);
-        self.len = len;
-        answer
+        let waited = self.room.entries.len();
+        self.room.add(waiting)?;
+        let slots = self.room.entries.as_mut_slice();
+        let added = Heap::over(slots, waited).push(waiting);
+        prove!(slots.len() == waited + 1);
+        added
     }
 
     fn take(&mut self) -> Option<Entry> {
-        let (answer, len) = pop_off(self.slots.as_mut_slice(), self.len);
-        self.len = len;
-        answer
+        let slots = self.room.entries.as_mut_slice();
+        let len = slots.len();
+        let first = Heap::over(slots, len).pop();
+        prove!(slots.len() == len);
+        self.room.entries.pop();
+        first
     }
 
     fn least(&self) -> Option<u64> {
-        let first = heap::front(self.slots.as_slice(), self.len)?;
-        Some(first.floor)
+        heap::front(&self.room.entries, self.room.entries.len()).map(|first| first.floor)
     }
-}
-
-/// Pushes an entry onto the heap of the first `len` entries, and answers how many there are then.
-fn push_onto(slots: &mut [Entry], len: usize, waiting: Entry) -> (Result<(), Full>, usize)
-    ensures fits { result.1 ≤ length slots.new }
-    ensures pushed { Pushed entry_cmp slots.old (take len slots.old) waiting result.0 slots.new (take result.1 slots.new) }
-{
-    let mut heap = Heap::over(slots, len);
-    let added = heap.push(waiting);
-    (added, heap.len())
-}
-
-/// Pops the first entry off the heap of the first `len` entries, and answers how many there are then.
-fn pop_off(slots: &mut [Entry], len: usize) -> (Option<Entry>, usize)
-    ensures fits { result.1 ≤ length slots.new }
-    ensures popped { Popped entry_cmp slots.old (take len slots.old) result.0 slots.new (take result.1 slots.new) }
-{
-    let mut heap = Heap::over(slots, len);
-    let taken = heap.pop();
-    (taken, heap.len())
 }

@@ -1,5 +1,6 @@
 // The calls of the newest-first line.
-ghost use Rattle.std.specs.Prelude.{◌≡◌, [], IfOk};
+ghost use Rattle.std.specs.Prelude.{◌≡◌, ◌≤◌, ◌↔◌, [], All, IfOk, IfSome, IsNone};
+ghost use Rattle.std.specs.List.{Any};
 ghost use Rattle.frontier.specs.Bags.{Least, bag_of};
 ghost use Rattle.frontier.specs.Disciplines.{Determined};
 ghost use Rattle.frontier.specs.Named.{newest_first};
@@ -8,6 +9,7 @@ ghost use Rattle.frontier.specs.Holding.{row_of};
 use crate::entry::Entry;
 use crate::line::WaitingLine;
 use crate::newest_first::NewestFirstLine;
+use crate::room::Room;
 use heap::Full;
 use std::alloc::{AllocError, Global};
 
@@ -17,8 +19,8 @@ impl NewestFirstLine {
         ensures empty { IfOk result (λ l. row_of l ≡ record { capacity = capacity; entries = [] }) }
         ensures determined { Determined newest_first }
     {
-        let entries = Vec::with_capacity(heap, capacity)?;
-        Ok(NewestFirstLine { entries, capacity })
+        let room = Room::new(heap, capacity)?;
+        Ok(NewestFirstLine { room })
     }
 }
 
@@ -28,33 +30,27 @@ impl WaitingLine for NewestFirstLine {
     ghost state = { λ l. row_of l };
 
     fn capacity(&self) -> usize {
-        self.capacity
+        self.room.capacity
     }
 
     fn add(&mut self, waiting: Entry) -> Result<(), Full> {
-        if self.entries.len() == self.capacity {
-            return Err(Full);
-        }
-        self.entries.push_reserved(waiting);
-        Ok(())
+        self.room.add(waiting)
     }
 
     fn take(&mut self) -> Option<Entry> {
-        self.entries.pop()
+        self.room.entries.pop()
     }
 
     fn least(&self) -> Option<u64> {
-        least_floor(&self.entries)
+        least_floor(&self.room.entries)
     }
 }
 
 /// The least floor of some entries; none where there are none.
 fn least_floor(entries: &[Entry]) -> Option<u64>
-    ensures { Least (bag_of entries.now) result }
+    ensures none { IsNone result ↔ (entries.now ≡ []) }
+    ensures reached { IfSome result (λ n. Any (λ e. e.floor ≡ n) entries.now) }
+    ensures least { IfSome result (λ n. All (λ e. n ≤ e.floor) entries.now) }
 {
-    let mut least = None;
-    for entry in entries {
-        least = Some(least.unwrap_or(entry.floor).min(entry.floor));
-    }
-    least
+    entries.iter().map(|entry| entry.floor).min()
 }

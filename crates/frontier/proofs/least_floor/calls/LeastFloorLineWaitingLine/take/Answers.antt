@@ -1,29 +1,12 @@
-use Rattle.std.proofs.Common.{take, sym, subst, arith}
-use Rattle.std.proofs.lemmas.List.{with_items_is}
-use Rattle.frontier.specs.Order.{InOrder}
-use Rattle.frontier.specs.Disciplines.{Taken}
-use Rattle.frontier.specs.Named.{least_first}
-use Rattle.frontier.proofs.Outcomes.{held, popped_line}
+use Rattle.std.proofs.Common.{vec_items, rules}
+use Rattle.std.proofs.lemmas.List.{take_all, with_items_is}
+use Rattle.frontier.proofs.Outcomes.{popped_row}
 use Rattle.frontier.proofs.least_floor.calls.LeastFloorLineWaitingLine.take.Goals as goal
 
-pub invariant_of-self : goal.invariant_of-self
-invariant_of-self c =
-    let l = c.args.self.now in
-    let ws = c.pop_off-answer.new.slots in
-    let m = c.pop_off-answer.result.1 in
-    let r = c.pop_off-answer.result.0 in
-    let lent = c.as_mut_slice.ensures in
-    let got = popped_line l.slots.len l.len m l.slots.items c.as_mut_slice.result.now ws r lent.value lent.len l.heaped c.pop_off-answer.ensures.popped in
-    let back = sym (with_items_is l.slots ws got.1) in
-    record { fits = omega (arith, c.pop_off-answer.ensures.fits, got.1); heaped = subst (λ ys. InOrder (take m ys)) back got.0 }
+pub invariant_of-self-2 : goal.invariant_of-self-2
+invariant_of-self-2 c =
+    let l = c.args.self.now.room in
+    search (rules, popped_row l.capacity (vec_items l.entries) c.pop-first.result (vec_items c.pop.new.self), take_all, with_items_is)
 
 pub returns : goal.returns
-returns c =
-    let l = c.args.self.now in
-    let ws = c.pop_off-answer.new.slots in
-    let m = c.pop_off-answer.result.1 in
-    let r = c.pop_off-answer.result.0 in
-    let lent = c.as_mut_slice.ensures in
-    let got = popped_line l.slots.len l.len m l.slots.items c.as_mut_slice.result.now ws r lent.value lent.len l.heaped c.pop_off-answer.ensures.popped in
-    let back = sym (with_items_is l.slots ws got.1) in
-    subst (λ ys. Taken least_first (held l.slots.len (take l.len l.slots.items)) r (held l.slots.len (take m ys))) back got.2
+returns c = search (rules, popped_row, take_all, with_items_is)
