@@ -5,13 +5,13 @@ use records::flow_job::FlowJob;
 use records::job::Job;
 use records::machine_job::MachineJob;
 use records::record::encode;
-use std::alloc::Global;
+use std::alloc::{AllocError, Global};
 use std::test::Fail;
 
 const LAWFUL: [u32; 4] = [0, 1, 0, 0];
 
 /// A file of records with these fields.
-fn file(heap: Global, rows: &[[u32; 4]]) -> Result<Vec<u8>, Refusal> {
+fn file(heap: Global, rows: &[[u32; 4]]) -> Result<Vec<u8>, AllocError> {
     let mut bytes = Vec::new(heap);
     for row in rows {
         bytes.extend_from_slice(&encode(row))?;

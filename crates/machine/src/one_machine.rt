@@ -30,6 +30,7 @@ impl OneMachine {
         ensures { Scheduled (rows_of self.now.list.jobs.items) order.now result }
     {
         check_order(order, self.list.count())?;
-        run(heap, &self.list, order)
+        let schedule = run(heap, &self.list, order)?;
+        Ok(schedule)
     }
 }

@@ -1,16 +1,15 @@
 // The schedule of an order: starts, ends and worth.
-ghost use Rattle.std.specs.Prelude.{◌≡◌, length};
+ghost use Rattle.std.specs.Prelude.{◌≡◌, length, IfOk};
 ghost use Rattle.model.specs.Places.{AtPlace};
 ghost use Rattle.model.specs.Orders.{Order};
 ghost use Rattle.machine.specs.Rows.{rows_of};
-ghost use Rattle.machine.specs.Schedule.{Scheduled};
+ghost use Rattle.machine.specs.Schedule.{Schedules};
 
 use crate::row::row_at;
 use jobs::joblist::JobList;
 use model::place::at_place;
-use model::refusal::Refusal;
 use records::machine_job::MachineJob;
-use std::alloc::Global;
+use std::alloc::{AllocError, Global};
 
 /// When a job starts and ends on the machine.
 #[derive(Clone, Copy)]
@@ -33,9 +32,9 @@ pub(crate) fn run(
     heap: Global,
     list: &JobList<MachineJob>,
     order: &[usize],
-) -> Result<Schedule, Refusal>
+) -> Result<Schedule, AllocError>
     requires { Order (length list.now.jobs.items) order.now }
-    ensures { Scheduled (rows_of list.now.jobs.items) order.now result }
+    ensures { IfOk result (λ s. Schedules (rows_of list.now.jobs.items) order.now s) }
 {
     let jobs = list.as_slice();
     let mut slots = Vec::new(heap);
