@@ -1,14 +1,17 @@
-use Rattle.std.proofs.Common.{refl, arith, rules}
-use Rattle.model.specs.Orders.{bad_entry}
-use Rattle.model.proofs.Naming.{fresh_order, order_fresh, order_length}
+use Rattle.std.proofs.Common.{refl, rules}
+use Rattle.model.specs.Orders.{not_one_each, bad_entry}
+use Rattle.model.proofs.Naming.{fresh_order, misnamed_no_order}
 use Rattle.model.proofs.order.check_order.Goals as goal
 
-pub returns-then-order-jobs-clause-exact : goal.returns-then-order-jobs-clause-exact
-returns-then-order-jobs-clause-exact c = grind (arith, order_length c.args.jobs c.args.order.now)
+pub returns-then-order-jobs : goal.returns-then-order-jobs
+returns-then-order-jobs c =
+    let m = not_one_each c.if-order-jobs.true refl in
+    record { answer = m; exact = search (rules, misnamed_no_order _ _ _ m) }
 
 pub returns-in-Some : goal.returns-in-Some
 returns-in-Some c =
-    record { answer = bad_entry c.in-Some.index c.if-order-jobs.false c.in-Some.ensures refl; exact = search (rules, order_fresh c.args.jobs c.args.order.now) }
+    let m = bad_entry c.in-Some.index c.if-order-jobs.false c.in-Some.ensures refl in
+    record { answer = m; exact = search (rules, misnamed_no_order _ _ _ m) }
 
 pub returns-in-None : goal.returns-in-None
 returns-in-None c = search (rules, fresh_order)
