@@ -1,9 +1,10 @@
 -- What a heap holds after `push` and `pop`.
-use Rattle.std.proofs.Common.{◌≡◌, ℕ, ◌+◌, ◌-◌, ◌≤◌, List, [], ◌∷◌, ◌++◌, length, get_or, take, drop, Ordering, arith, length-take}
+use Rattle.std.proofs.Common.{◌≡◌, ℕ, ◌+◌, ◌-◌, ◌≤◌, List, [], ◌∷◌, ◌++◌, length, get_or, take, drop, Option, Result, Ordering, arith, length-take}
 use Rattle.std.specs.List.Sorted.{IsPermutation}
 use Rattle.std.proofs.lemmas.List.{length_push, get_or_append_left, get_or-append_right, get_or-drop, take_at, take_more, take_all, append_assoc, get_or-take}
 use Rattle.std.proofs.lemmas.List.Sorted.{IsPermutation-refl, IsPermutation-trans, IsPermutation-append_comm, IsPermutation-push_more}
 use Rattle.heap.specs.Order.{Heaped}
+use Rattle.heap.specs.Calls.{Pushed, Popped}
 use Rattle.heap.specs.Sifting.{Rises, Mends}
 
 -- ys is xs with the items at a and b in each other's place
@@ -37,3 +38,11 @@ take_front zs mid rest n e = grind (arith, append_assoc, take_at)
 -- what stands behind a part that was written anew
 pub behind : {X : Type 0} (zs xs : List X) (n m k : ℕ) (d : X) → length zs ≡ n → m ≡ n → n ≤ k → get_or (zs ++ drop m xs) k d ≡ get_or xs k d
 behind zs xs n m k d e f h = grind (arith, get_or-append_right, get_or-drop)
+
+-- for a user of the heap: heap order and the memory's length outlast every call, refused or not
+module _ {X : Type 0} (R : X → X → Ordering) where
+  pub pushed_keeps : {U F : Type 0} (cells items cells' items' : List X) (x : X) (r : Result U F) → Heaped R items → Pushed R cells items x r cells' items' → Heaped R items' × (length cells' ≡ length cells)
+  pushed_keeps cells items cells' items' x r h f = grind arith
+
+  pub popped_keeps : (cells items cells' items' : List X) (r : Option X) → Heaped R items → Popped R cells items r cells' items' → Heaped R items' × (length cells' ≡ length cells)
+  popped_keeps cells items cells' items' r h f = grind arith

@@ -1,3 +1,4 @@
+pub mod Rows
 pub mod RoundTrip
 pub mod Reading
 pub mod Refusing
