@@ -9,7 +9,7 @@ use std::alloc::{AllocError, Global};
 #[derive(Drop)]
 pub(crate) struct Room {
     pub(crate) entries: Vec<Entry>,
-    // beside the row, since a `Vec` may get more than it asked for
+    // beside the row: the line's capacity is what it was made for, whatever room its `Vec` has
     pub(crate) capacity: usize,
     ghost fits: { vec_len entries ≤ capacity },
     ghost reserved: { capacity ≤ vec_capacity entries },

@@ -1,6 +1,7 @@
 // The calls of the least-floor line.
 ghost use Rattle.std.specs.Prelude.{◌≡◌, IfOk};
 ghost use Rattle.frontier.specs.Bags.{nothing};
+ghost use Rattle.frontier.specs.Order.{ByFloor};
 ghost use Rattle.frontier.specs.Disciplines.{Determined};
 ghost use Rattle.frontier.specs.Named.{least_first};
 ghost use Rattle.frontier.specs.Holding.{held_by};
@@ -14,10 +15,11 @@ use std::alloc::{AllocError, Global};
 
 impl LeastFloorLine {
     /// An empty line with memory for `capacity` entries.
-    #[tactic(auto, using(crate::proofs::Leading::least_determined))]
+    #[tactic(auto, using(crate::proofs::Leading::least_determined, crate::specs::Order::by_floor))]
     pub fn new(heap: Global, capacity: usize) -> Result<LeastFloorLine, AllocError>
         ensures empty { IfOk result (λ l. held_by l ≡ record { capacity = capacity; bag = nothing }) }
         ensures determined { Determined least_first }
+        ensures ordered { ByFloor ⟦<Entry as Ord>⟧.cmp }
     {
         let room = Room::new(heap, capacity)?;
         Ok(LeastFloorLine { room })

@@ -1,5 +1,5 @@
 use Rattle.std.proofs.Common.{vec_items, rules}
-use Rattle.std.proofs.lemmas.List.{take_at, with_items_is}
+use Rattle.std.proofs.lemmas.List.{take_at, take_all, with_items_is}
 use Rattle.frontier.proofs.Outcomes.{pushed_row}
 use Rattle.frontier.proofs.least_floor.calls.LeastFloorLineWaitingLine.add.Goals as goal
 
@@ -9,4 +9,4 @@ invariant_of-self-3 c =
     search (rules, pushed_row l.capacity c.add.new.self.capacity (vec_items l.entries) c.args.waiting c.push-added.result c.push-added.new.self.slots.now c.over.result c.push-added.new.self, take_at, with_items_is)
 
 pub returns : goal.returns
-returns c = search (rules, pushed_row, take_at, with_items_is)
+returns c = search (rules, pushed_row, take_at, take_all, with_items_is)
