@@ -1,16 +1,22 @@
 -- The entry in front of a heap leads its bag.
 use Rattle.std.proofs.Common.{◌≡◌, false, List, sym, ap, ◌∙◌, arith}
+use Rattle.std.specs.Cmp.{ranks}
 use Rattle.std.proofs.lemmas.Bool.Decides.{nat_tests}
+use Rattle.std.proofs.lemmas.List.Elements.{All-weaker}
 use Rattle.heap.specs.Order.{after, First}
+use Rattle.heap.proofs.Keyed.{not_after}
 use Rattle.frontier.specs.declared.entry.Entry.{Entry}
-use Rattle.frontier.specs.Order.{entry_cmp}
+use Rattle.frontier.specs.Order.{entry_cmp, Precedes}
 use Rattle.frontier.specs.Bags.{bag_of}
 use Rattle.frontier.specs.Disciplines.{Determined}
 use Rattle.frontier.specs.Named.{Leads, Held, least_first}
 use Rattle.frontier.proofs.Counts.{holds_all}
 
+pub precedes : (x y : Entry) → after entry_cmp x y ≡ false → Precedes x y
+precedes x y h = not_after _ _ _ _ _ _ _ (ranks x.floor y.floor) (ranks x.place y.place) h
+
 pub leads : (x : Entry) (es : List Entry) → First entry_cmp x es → Leads x (bag_of es)
-leads x es h = grind (arith, nat_tests, holds_all (λ z. after entry_cmp x z ≡ false) es h)
+leads x es h = holds_all (Precedes x) es (All-weaker (λ y. after entry_cmp x y ≡ false) (Precedes x) (precedes x) es h)
 
 -- each of two leaders precedes the other, and the counts tell what is left
 pub least_determined : Determined least_first

@@ -1,12 +1,14 @@
 -- The job in front of a heap leads those that are ready.
-use Rattle.std.proofs.Common.{◌≡◌, false, List, Option, arith}
+use Rattle.std.proofs.Common.{◌≡◌, false, List, Option, sym, inl, inr, ⊎_elim, arith}
+use Rattle.std.specs.Cmp.{ranks}
 use Rattle.heap.specs.Order.{after, First}
 use Rattle.heap.specs.Calls.{Popped}
+use Rattle.heap.proofs.Keyed.{not_after}
 use Rattle.ready.specs.declared.ReadyJob.{ReadyJob}
 use Rattle.ready.specs.Order.{ready_job_cmp, Precedes, Leads, Starts}
 
 pub precedes : (x y : ReadyJob) → after ready_job_cmp x y ≡ false → Precedes x y
-precedes x y h = grind arith
+precedes x y h = ⊎_elim inl (λ g. inr (sym g.0, g.1)) (not_after _ _ _ _ _ _ _ (ranks y.tail x.tail) (ranks x.job y.job) h)
 
 pub leads : (x : ReadyJob) (xs : List ReadyJob) → First ready_job_cmp x xs → Leads x xs
 leads x xs = search precedes

@@ -15,7 +15,7 @@ use std::alloc::{AllocError, Global};
 
 impl LeastFloorLine {
     /// An empty line with memory for `capacity` entries.
-    #[tactic(auto, using(crate::proofs::Leading::least_determined, crate::specs::Order::by_floor))]
+    #[tactic(auto, using(crate::proofs::Leading::least_determined))]
     pub fn new(heap: Global, capacity: usize) -> Result<LeastFloorLine, AllocError>
         ensures empty { IfOk result (λ l. held_by l ≡ record { capacity = capacity; bag = nothing }) }
         ensures determined { Determined least_first }

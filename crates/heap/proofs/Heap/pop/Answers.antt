@@ -1,4 +1,4 @@
-use Rattle.std.proofs.Common.{◌≡◌, ◌-◌, length, get_or, take, drop, arith, rules, length-take}
+use Rattle.std.proofs.Common.{◌≡◌, ◌-◌, ◌++◌, length, get_or, take, drop, arith, rules, length-take}
 use Rattle.std.proofs.Math.Nat.{sub-zero}
 use Rattle.std.proofs.lemmas.List.{get_or-take, get_or_default, places}
 use Rattle.std.proofs.lemmas.List.Sorted.{length_permutation}
@@ -18,4 +18,12 @@ returns-clause-popped g c =
     let head : (d : g.row.T.Denot) → x ≡ get_or (take n e) 0 d = λ d. grind (arith, get_or_default, get_or-take) in
     let size : length zs ≡ n - 1 = grind (arith, length_permutation _ zs r.shuffled, length-take) in
     let held = rw (sub-zero n) at (given_out g.T.Ord.cmp (take (n - 0) e) ys _ zs x (n - 1) (grind (arith, length-take)) (rw sub-zero head) w.len w.permutation (w.by_index.0, w.by_index.1, w.by_index.2) (rw sub-zero) r.shuffled r.mends) in
-    search (rules, places, arith, length-take, head, first g.met.T.Ord.total, rw (← take_front zs (drop (n - 1 - 0) ys) (drop (n - 0) e) (n - 1) size) at held, behind)
+    let lies = rw (← take_front zs (drop (n - 1 - 0) ys) (drop (n - 0) e) (n - 1) size) at held in (
+      (search (rules, arith, length-take), head, first g.met.T.Ord.total (take n e) x head),
+      record {
+        bag = lies.0;
+        heaped = lies.1;
+        room = search (rules, places, arith);
+        unused = λ k d a b. behind (zs ++ drop (n - 1 - 0) ys) e n (n - 0) k d (search (rules, places, arith)) (omega arith) (grind (arith, length-take));
+      },
+    )

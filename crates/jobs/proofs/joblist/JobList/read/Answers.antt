@@ -10,4 +10,4 @@ pub returns : goal.returns
 returns g c =
     let held : Holds g.J.Job.spans (map g.J.Job.row (vec_items c.in_ok-self.field-0)) c.args.bytes.now =
     file_held _ _ _ _ g.met.J.Job.lawful (search (arith, elements, c.type_inv.bytes)) (search (arith, nat_tests)) (grind (arith, nat_tests)) (cc c.in_ok-self.ensures.answer) in
-    record { answer = held; only = search (arith, held_unrefused) }
+    record { answer = held; only = λ f. held_unrefused _ _ _ f held }
