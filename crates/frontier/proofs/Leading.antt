@@ -1,16 +1,20 @@
 -- The entry in front of a heap leads its bag.
-use Rattle.std.proofs.Common.{◌≡◌, false, List, sym, ap, ◌∙◌, arith}
+use Rattle.std.proofs.Common.{◌≡◌, false, List, refl, sym, ap, ◌∙◌, arith}
 use Rattle.std.specs.Cmp.{ranks}
 use Rattle.std.proofs.lemmas.Bool.Decides.{nat_tests}
 use Rattle.std.proofs.lemmas.List.Elements.{All-weaker}
 use Rattle.heap.specs.Order.{after, First}
 use Rattle.heap.proofs.Keyed.{not_after}
 use Rattle.frontier.specs.declared.entry.Entry.{Entry}
-use Rattle.frontier.specs.Order.{entry_cmp, Precedes}
+use Rattle.frontier.specs.Order.{entry_cmp, by_floor, ByFloor, Precedes}
 use Rattle.frontier.specs.Bags.{bag_of}
 use Rattle.frontier.specs.Disciplines.{Determined}
 use Rattle.frontier.specs.Named.{Leads, Held, least_first}
 use Rattle.frontier.proofs.Counts.{holds_all}
+
+-- what the derived comparison of entries computes
+pub compared : ByFloor entry_cmp
+compared = record { same = λ _ _. refl; total = by_floor }
 
 pub precedes : (x y : Entry) → after entry_cmp x y ≡ false → Precedes x y
 precedes x y h = not_after _ _ _ _ _ _ _ (ranks x.floor y.floor) (ranks x.place y.place) h

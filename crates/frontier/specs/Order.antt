@@ -21,10 +21,10 @@ entry_cmp = two_keys_cmp nat_cmp nat_cmp floor_of place_of
 abbrev pub by_floor : IsTotalOrder entry_cmp
 by_floor = by_keys nat_cmp_total nat_cmp_total floor_of place_of
 
--- A comparison of entries is that one, and total.
+-- R compares entries just so, and is a total order.
 pub record ByFloor (R : Entry → Entry → Ordering) : Type 0 where
   pub same : (x y : Entry) → R x y ≡ entry_cmp x y
-  pub total : IsTotalOrder entry_cmp
+  pub total : IsTotalOrder R
 
 -- The entries lie in heap order.
 abbrev pub InOrder : List Entry → Type 0

@@ -8,5 +8,6 @@ invariant_of-self-3 c =
     let l = c.args.self.now.room in
     search (rules, pushed_row l.capacity c.add.new.self.capacity (vec_items l.entries) c.args.waiting c.push-added.result c.push-added.new.self.slots.now c.over.result c.push-added.new.self, take_at, with_items_is)
 
+-- `take_all` is for a row that is cut to all that there is: an edit that cuts it short is refused for what it leaves
 pub returns : goal.returns
 returns c = search (rules, pushed_row, take_at, take_all, with_items_is)
